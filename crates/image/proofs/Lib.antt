@@ -1,0 +1,12 @@
+pub mod Sizes
+pub mod Enums
+pub mod Framed
+pub mod Rising
+pub mod Growth
+pub mod Stands
+pub mod SlotPlaces
+pub mod Measured
+pub mod Holds
+pub mod Frames
+pub mod Turns
+pub mod First
