@@ -1,14 +1,12 @@
 -- The first record: by the frame behind the version byte the image reads as a refusal, or as its identity with the records that follow it.
 -- Assumes nothing.
-use mathlib.Core.Path.{_≡_, refl, sym, ap, _∙_, subst}
+use mathlib.Core.Path.{_≡_, refl, sym, ap, _∙_}
 use mathlib.Core.List.{List, [], _∷_}
 use Prim.Native.Nat.{ℕ, _+_}
 use native.Mathlib.Omega.{arith}
 use lib.ListN.{length, getD}
-use lib.Dec.{eqb}
-use borrow.Author.Tests.{eqb-true, eq-eqb, ne-eqb}
+use borrow.Author.Tests.{eqb-true, ne-eqb}
 use Rattle.wire.specs.Bytes.{part}
-use Rattle.wire.specs.Pick.{pick}
 use Rattle.wire.proofs.Laws.{part-length}
 use Rattle.wire.proofs.Picks.{picks, not-second}
 use Rattle.image.specs.Limits.{identityKind, identityEnd, wrongKind}

@@ -3,14 +3,13 @@
 use mathlib.Core.Path.{_≡_, refl, sym, ap, _∙_, subst}
 use mathlib.Core.Bool.{false}
 use mathlib.Core.List.{List, [], _∷_, _++_}
-use Prim.Native.Nat.{ℕ, zero, suc, _+_, _-_, _*_, _/_, _%_, _≤_, _<_}
+use Prim.Native.Nat.{ℕ, zero, suc, _+_, _-_, _/_, _%_, _≤_, _<_}
 use native.Mathlib.Omega.{arith}
 use lib.ListN.{length, getD, take, drop, length-append, take-append-drop, length-drop}
-use lib.Seq.{take-at, drop-at, length-take-le, getD-drop, drop-drop}
+use lib.Seq.{take-at, drop-at, length-take-le, getD-drop, drop-drop, drop-cons}
 use lib.Dec.{eqb}
 use borrow.Author.Tests.{ltb-false, eqb-true, ne-eqb}
 use Rattle.wire.specs.Bytes.{Bytes, beAt, beBytes}
-use Rattle.wire.specs.Pick.{pick}
 use Rattle.wire.proofs.Picks.{either, picks}
 use Rattle.image.specs.Contents.{recordBytes}
 use Rattle.image.specs.Reading.{Frames, ended, broken, frame, framesOf}
@@ -51,17 +50,18 @@ pub empty : {A : Type 0} (l : List A) → length l ≡ 0 → l ≡ []
 empty [] h = refl
 empty (x ∷ l) h = absurd (omega arith)
 
+-- the first three elements, and what follows them
+pub heads : (b : List ℕ) → 3 ≤ length b → b ≡ getD b 0 0 ∷ getD b 1 0 ∷ getD b 2 0 ∷ drop 3 b
+heads b h = cc (drop-cons b 0 0 (omega arith), drop-cons b 1 0 (omega arith), drop-cons b 2 0 (omega arith))
+
 -- a record's head, and what follows it
 headed : (b : List ℕ) (n : ℕ) → 3 ≤ length b → Bytes b → n ≡ beAt 2 b 0 → b ≡ beBytes 2 n ++ (getD b 2 0 ∷ drop 3 b)
-headed [] n h y e = absurd (omega arith)
-headed (p ∷ []) n h y e = absurd (omega arith)
-headed (p ∷ q ∷ []) n h y e = absurd (omega arith)
-headed (p ∷ q ∷ r ∷ b) n h y e =
-    let u : p < 256 = y 0 in
-    let v : q < 256 = y 1 in
-    let s : n / 256 % 256 ≡ p = omega arith in
-    let t : n % 256 ≡ q = omega arith in
-    cc
+headed b n h y e =
+    let u : getD b 0 0 < 256 = y 0 in
+    let v : getD b 1 0 < 256 = y 1 in
+    let s : n / 256 % 256 ≡ getD b 0 0 = omega arith in
+    let t : n % 256 ≡ getD b 1 0 = omega arith in
+    cc (heads b h)
 
 -- what was taken apart is joined again
 pub together : (n : ℕ) (b : List ℕ) (f : Frames) → Bytes b → framesOf n b ≡ f → Whole f → b ≡ joined f
@@ -76,15 +76,15 @@ together (suc n) b f y e w =
     (λ t₁ g₁. either (b ≡ joined f) _ _ _ _ g₁ (λ t g. absurd (subst Whole (sym g) w))
     (λ t₂ g₂. either (b ≡ joined f) _ _ _ _ g₂ (λ t g. absurd (subst Whole (sym g) w))
     (λ t₃ g₃.
-      let m = beAt 2 b 0 in
-      let d = drop 3 b in
-      let r = drop (3 + m) b in
-      let h₂ : 3 ≤ length b = ltb-false _ _ t₂ in
-      let h₃ : m ≤ length b - 3 = ltb-false _ _ t₃ in
-      let l = length-drop 3 b in
-      let k : length (take m d) ≡ m = length-take-le m d (omega arith) in
-      let ih : r ≡ joined (framesOf n r) = together n r (framesOf n r) (bytes-drop (3 + m) b y) refl (subst Whole (sym g₃) w .1) in
-      headed b (length (take m d)) h₂ y k
-      ∙ ap (λ (l : List ℕ). beBytes 2 (length (take m d)) ++ (getD b 2 0 ∷ l))
-        (sym (take-append-drop m d) ∙ ap (λ (l : List ℕ). take m d ++ l) (drop-drop m 3 b ∙ ih))
-      ∙ ap joined g₃)))
+    let m = beAt 2 b 0 in
+    let d = drop 3 b in
+    let r = drop (3 + m) b in
+    let h₂ : 3 ≤ length b = ltb-false _ _ t₂ in
+    let h₃ : m ≤ length b - 3 = ltb-false _ _ t₃ in
+    let l = length-drop 3 b in
+    let k : length (take m d) ≡ m = length-take-le m d (omega arith) in
+    let ih : r ≡ joined (framesOf n r) = together n r (framesOf n r) (bytes-drop (3 + m) b y) refl (subst Whole (sym g₃) w .1) in
+    headed b (length (take m d)) h₂ y k
+    ∙ ap (λ (l : List ℕ). beBytes 2 (length (take m d)) ++ (getD b 2 0 ∷ l))
+    (sym (take-append-drop m d) ∙ ap (λ (l : List ℕ). take m d ++ l) (drop-drop m 3 b ∙ ih))
+    ∙ ap joined g₃)))

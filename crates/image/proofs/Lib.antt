@@ -1,12 +1,15 @@
 pub mod Sizes
-pub mod Enums
 pub mod Framed
 pub mod Rising
+pub mod Sound
 pub mod Growth
+pub mod Onward
+pub mod Exactly
 pub mod Stands
 pub mod SlotPlaces
 pub mod Measured
 pub mod Holds
+pub mod Enums
 pub mod Frames
-pub mod Turns
 pub mod First
+pub mod Turns

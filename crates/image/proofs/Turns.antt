@@ -1,9 +1,8 @@
 -- The walk's turns. At each turn the image reads as what was read so far with the records from here on; a good record moves that on by one,
 -- and what the walk carries is read off the contents so far. Assumes nothing.
 use mathlib.Core.Path.{_≡_, refl, sym, ap, _∙_, subst}
-use mathlib.Core.Bool.{Bool, true, false}
 use mathlib.Core.List.{List, [], _∷_, _++_, map, append-nil}
-use Prim.Native.Nat.{ℕ, zero, suc, _+_, _≤_, _<_}
+use Prim.Native.Nat.{ℕ, suc, _+_, _≤_, _<_}
 use native.Mathlib.Omega.{arith}
 use native.Mathlib.Nat.{add-zero}
 use lib.ListN.{length, getD, set, length-append}
@@ -14,9 +13,9 @@ use Rattle.wire.specs.Pick.{pick}
 use Rattle.wire.proofs.Laws.{part-length}
 use Rattle.wire.proofs.Picks.{pick-map, pick-case, pick-yes, pick-no, when-true, when-false, not-first, either}
 use Rattle.image.specs.Sizes.{digestSize, digestMost}
-use Rattle.image.specs.Limits.{headLength, identityEnd, chainKind, measurementKind, slotLimit}
-use Rattle.image.specs.Contents.{Chain, Measurement, Contents, chainBody, recordBytes, recordsBytes, identityBytes, imageBytes, slots, indices}
-use Rattle.image.specs.Reading.{Result, number, found, unless, lastFrom, seen, identityFault, chainFault, measurementFault, recordFault, endFault, chainIn, measurementIn, addChain, addMeasurement, extended, readOn}
+use Rattle.image.specs.Limits.{headLength, identityEnd, chainKind, slotLimit}
+use Rattle.image.specs.Contents.{Chain, Measurement, Contents, chainBody, recordBytes, recordsBytes, identityBytes, imageBytes}
+use Rattle.image.specs.Reading.{Result, number, found, unless, lastFrom, seen, identityFault, chainFault, measurementFault, recordFault, chainIn, measurementIn, addChain, addMeasurement, extended, readOn}
 use Rattle.image.specs.Index.{noPlaces, placesOf, firstOf, chainsEnd, indexOf, refusedBy, acceptedAt, answerOf}
 use Rattle.image.specs.Steps.{framesAt, frameAt, recordOf, identityAt, seenAfter, placesAfter, indexFrom}
 use Rattle.image.specs.declared.Seen.{Seen}
@@ -27,7 +26,8 @@ use Rattle.image.specs.declared.Record.{Record}
 use Rattle.image.specs.declared.Record.the-variants as rec
 use Rattle.image.proofs.Frames.{followed, frames-read, whole-within}
 use Rattle.image.proofs.Framed.{empty}
-use Rattle.image.proofs.Growth.{Sound, Grown, grown, Begun, begun}
+use Rattle.image.proofs.Sound.{Sound}
+use Rattle.image.proofs.Growth.{grown, identity-grown}
 use Rattle.image.proofs.Sizes.{digest-most}
 
 -- what the reading comes to, by the record that was read
@@ -190,7 +190,7 @@ pub reached-first : (b : List ℕ) (exponent hash signature size : ℕ) → iden
       (record { bodies = noPlaces; first = 0 })
 unfolding placesOf firstOf recordBytes
 reached-first b exponent hash signature size f e =
-    let g = begun (exponent ∷ hash ∷ signature ∷ []) f in
+    let g = identity-grown (exponent ∷ hash ∷ signature ∷ []) f in
     record { held = identityAt exponent hash signature; same = refl; sound = g .sound; seeing = rw e; places = refl;
       place = sym (ap length (g .bytes)); exponent = refl; hash = refl; signature = refl }
 

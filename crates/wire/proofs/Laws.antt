@@ -1,13 +1,13 @@
 -- The laws of `splice`, of parts and of numbers in bytes, for this crate's proofs and its clients'. Assumes nothing.
 use mathlib.Core.Path.{_≡_, refl, sym, ap, _∙_}
 use mathlib.Core.List.{List, [], _∷_, _++_, append-nil, append-assoc}
-use Prim.Native.Nat.{ℕ, zero, suc, _+_, _*_, _/_, _%_, _-_, _≤_, _<_}
+use Prim.Native.Nat.{ℕ, zero, suc, _+_, _*_, _-_, _≤_, _<_}
 use native.Mathlib.Omega.{arith}
 use native.Mathlib.Nat.{add-zero, zero-mul, zero-add, add-assoc}
 use native.Mathlib.Numerals.{add-one}
-use lib.ListN.{List·getD-append, length, take, drop, set, getD, length-set, length-append, length-drop, take-append-drop, drop-of-length-le, List·getD-eq-default}
+use lib.ListN.{List·getD-append, length, take, drop, set, getD, length-set, length-drop, take-append-drop, drop-of-length-le, List·getD-eq-default}
 use lib.Seq.{getD-append-add, getD-set-other, set-comm, set-out, take-suc, take-set-le, drop-set-lt, take-suc-set, length-take-le, take-at, drop-at, take-nil, take-all}
-use Rattle.wire.specs.Bytes.{Bytes, splice, leAt, beAt, leBytes, beBytes}
+use Rattle.wire.specs.Bytes.{splice, leAt, beAt}
 
 pub splice-length : (l : List ℕ) (i : ℕ) (xs : List ℕ) → length (splice l i xs) ≡ length l
 unfolding splice

@@ -7,28 +7,20 @@ use Rattle.image.proofs.Sizes.{digest-most}
 use borrow.Author.Needs.{needs}
 use Rattle.image.proofs.digest_size.Statement.{statement}
 use Rattle.image.proofs.digest_size.Tie as tie
-use Rattle.image.proofs.digest_size.Reads as reads
-use Rattle.image.proofs.digest_size.Lts as lts
-use Rattle.wire.proofs.wide.Reads as wide-reads
 
--- src/lib.rt:52:9
 wide-requires : tie.Need-wide-requires
 wide-requires c κs = search needs
 
--- src/lib.rt:53:16
 mul-result : tie.Need-mul-result
 mul-result c = search needs
 
--- src/lib.rt:53:16
 array-read-result : tie.Need-array-read-result
 array-read-result c = search needs
 
--- src/lib.rt:49:1
 returns : tie.Need-returns
 unfolding digestSize
 returns c = (ap digestSize (c .before .wide .ensures .0), digest-most (c .before .wide .result))
 
--- src/lib.rt:49:1
 returns-2 : tie.Need-returns-2
 unfolding digestSize
 returns-2 c = (sym (ap digestSize (sym (c .before .wide .ensures .0)) ∙ List·getD-eq-default digestSizes 0 (c .if1 .left)), search needs)

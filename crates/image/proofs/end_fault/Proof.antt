@@ -3,25 +3,19 @@ use Rattle.wire.proofs.Picks.{picks}
 use Rattle.image.specs.Reading.{endFault}
 use Rattle.image.proofs.end_fault.Statement.{statement}
 use Rattle.image.proofs.end_fault.Tie as tie
-use Rattle.image.proofs.end_fault.Reads as reads
-use Rattle.image.proofs.end_fault.Lts as lts
 
--- src/lib.rt:297:9
 returns : tie.Need-returns
 unfolding endFault
 returns c = search picks depth 14
 
--- src/lib.rt:300:9
 returns-2 : tie.Need-returns-2
 unfolding endFault
 returns-2 c = search picks depth 14
 
--- src/lib.rt:303:9
 returns-3 : tie.Need-returns-3
 unfolding endFault
 returns-3 c = search picks depth 14
 
--- src/lib.rt:293:1
 returns-4 : tie.Need-returns-4
 unfolding endFault
 returns-4 c = search picks depth 14

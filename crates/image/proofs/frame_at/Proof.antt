@@ -4,50 +4,37 @@ use Rattle.image.specs.Steps.{frameAt}
 use borrow.Author.Needs.{needs}
 use Rattle.image.proofs.frame_at.Statement.{statement}
 use Rattle.image.proofs.frame_at.Tie as tie
-use Rattle.image.proofs.frame_at.Reads as reads
-use Rattle.image.proofs.frame_at.Lts as lts
-use Rattle.wire.proofs.get_u16be.Reads as get-u16be-reads
 
--- src/lib.rt:164:9
 returns : tie.Need-returns
 unfolding frameAt
 returns c = search picks depth 14
 
--- src/lib.rt:166:16
 sub-left : tie.Need-sub-left
 sub-left c = search needs
 
--- src/lib.rt:168:9
 returns-2 : tie.Need-returns-2
 unfolding frameAt
 returns-2 c = search picks depth 14
 
--- src/lib.rt:170:15
 get-u16be-requires : tie.Need-get-u16be-requires
 get-u16be-requires c κs = search needs
 
--- src/lib.rt:170:15
 cast-len : tie.Need-cast-len
 cast-len c = search needs
 
--- src/lib.rt:172:9
 returns-3 : tie.Need-returns-3
 unfolding frameAt
 returns-3 c = rw (← c .before .get-u16be .ensures) (search picks depth 14)
 
--- src/lib.rt:175:17
 add-t5 : tie.Need-add-t5
 add-t5 c = search needs
 
--- src/lib.rt:175:15
 shared-slice-read-t9 : tie.Need-shared-slice-read-t9
 shared-slice-read-t9 c = search needs
 
--- src/lib.rt:176:16
 add-t10 : tie.Need-add-t10
 add-t10 c = search needs
 
--- src/lib.rt:160:1
 returns-4 : tie.Need-returns-4
 unfolding frameAt
 returns-4 c = rw (← c .before .before .get-u16be .ensures) (search picks depth 14)

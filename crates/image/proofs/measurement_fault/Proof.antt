@@ -4,57 +4,44 @@ use Rattle.image.specs.Reading.{measurementFault}
 use borrow.Author.Needs.{needs}
 use Rattle.image.proofs.measurement_fault.Statement.{statement}
 use Rattle.image.proofs.measurement_fault.Tie as tie
-use Rattle.image.proofs.measurement_fault.Reads as reads
-use Rattle.image.proofs.measurement_fault.Lts as lts
 
--- src/lib.rt:241:9
 returns : tie.Need-returns
 unfolding measurementFault
 returns c = search picks depth 18
 
--- src/lib.rt:244:9
 returns-2 : tie.Need-returns-2
 unfolding measurementFault
 returns-2 c = search picks depth 18
 
--- src/lib.rt:247:9
 returns-3 : tie.Need-returns-3
 unfolding measurementFault
 returns-3 c = search picks depth 18
 
--- src/lib.rt:249:22
 add-if4 : tie.Need-add-if4
 add-if4 c = search needs
 
--- src/lib.rt:250:9
 returns-4 : tie.Need-returns-4
 unfolding measurementFault
 returns-4 c = search picks depth 18
 
--- src/lib.rt:252:17
 shared-slice-read-index : tie.Need-shared-slice-read-index
 shared-slice-read-index c = search needs
 
--- src/lib.rt:254:9
 returns-5 : tie.Need-returns-5
 unfolding measurementFault
 returns-5 c = search picks depth 18
 
--- src/lib.rt:257:9
 returns-6 : tie.Need-returns-6
 unfolding measurementFault
 returns-6 c = search picks depth 18
 
--- src/lib.rt:259:21
 shared-slice-read-if7 : tie.Need-shared-slice-read-if7
 shared-slice-read-if7 c = search needs
 
--- src/lib.rt:260:9
 returns-7 : tie.Need-returns-7
 unfolding measurementFault
 returns-7 c = search picks depth 18
 
--- src/lib.rt:236:1
 returns-8 : tie.Need-returns-8
 unfolding measurementFault
 returns-8 c = search picks depth 18

@@ -4,43 +4,31 @@ use Rattle.wire.proofs.Picks.{picks}
 use borrow.Author.Needs.{needs}
 use Rattle.image.proofs.places_after.Statement.{statement}
 use Rattle.image.proofs.places_after.Tie as tie
-use Rattle.image.proofs.places_after.Reads as reads
-use Rattle.image.proofs.places_after.Lts as lts
-use Rattle.wire.proofs.wide.Reads as wide-reads
 
--- src/lib.rt:418:13
 wide-requires : tie.Need-wide-requires
 wide-requires c κs = search needs
 
--- src/lib.rt:419:26
 cast-next : tie.Need-cast-next
 cast-next c = search needs
 
--- src/lib.rt:419:9
 mul-next : tie.Need-mul-next
 mul-next c = search needs
 
--- src/lib.rt:419:9
 element-write-next : tie.Need-element-write-next
 element-write-next c = let h = c .before .before .pre .1 (c .before .if1 .taken) in omega arith
 
--- src/lib.rt:420:9
 returns : tie.Need-returns
 returns c = rw (c .wide .ensures .0) (search picks depth 8)
 
--- src/lib.rt:424:26
 cast-next-2 : tie.Need-cast-next-2
 cast-next-2 c = search needs
 
--- src/lib.rt:425:13
 returns-2 : tie.Need-returns-2
 returns-2 c = search picks depth 8
 
--- src/lib.rt:412:1
 returns-3 : tie.Need-returns-3
 returns-3 c = search picks depth 8
 
--- src/lib.rt:412:1
 returns-4 : tie.Need-returns-4
 returns-4 c = search picks depth 8
 

@@ -9,47 +9,34 @@ use Rattle.image.proofs.Frames.{frames-whole}
 use borrow.Author.Needs.{needs}
 use Rattle.image.proofs.read_image.Statement.{statement}
 use Rattle.image.proofs.read_image.Tie as tie
-use Rattle.image.proofs.read_image.Reads as reads
-use Rattle.image.proofs.read_image.Lts as lts
-use Rattle.image.proofs.read_records.Reads as read-records-reads
-use Rattle.image.proofs.refused.Reads as refused-reads
 
--- src/lib.rt:492:9
 refused-requires : tie.Need-refused-requires
 refused-requires c κs = search needs
 
--- src/lib.rt:492:9
 returns : tie.Need-returns
 unfolding answerOf reading
 returns c = let w : number wrongSize ≡ reading (c .before .before .before .args .s .now) = search picks depth 10 in c .refused .ensures ∙ ap answerOf w
 
--- src/lib.rt:495:9
 refused-requires-2 : tie.Need-refused-requires-2
 refused-requires-2 c κs = search needs
 
--- src/lib.rt:495:9
 returns-2 : tie.Need-returns-2
 unfolding answerOf reading
 returns-2 c = let w : number wrongSize ≡ reading (c .before .before .before .before .args .s .now) = search picks depth 10 in c .refused2 .ensures ∙ ap answerOf w
 
--- src/lib.rt:497:8
 shared-slice-read-if3 : tie.Need-shared-slice-read-if3
 shared-slice-read-if3 c = search needs
 
--- src/lib.rt:498:9
 refused-requires-3 : tie.Need-refused-requires-3
 refused-requires-3 c κs = search needs
 
--- src/lib.rt:498:9
 returns-3 : tie.Need-returns-3
 unfolding answerOf reading
 returns-3 c = let w : number wrongVersion ≡ reading (c .before .before .before .before .before .before .args .s .now) = search picks depth 10 in c .refused3 .ensures ∙ ap answerOf w
 
--- src/lib.rt:500:5
 read-records-requires : tie.Need-read-records-requires
 read-records-requires c κs = search needs
 
--- src/lib.rt:488:1
 returns-4 : tie.Need-returns-4
 unfolding reading
 returns-4 c =

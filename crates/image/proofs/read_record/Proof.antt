@@ -1,5 +1,5 @@
 -- The frame at the place decides the case; a whole frame is then held against the records before it. Assumes nothing.
-use mathlib.Core.Path.{_≡_, sym, ap, _∙_}
+use mathlib.Core.Path.{sym, ap, _∙_}
 use mathlib.Core.List.{List}
 use Prim.Native.Nat.{ℕ}
 use lib.ListN.{getD}
@@ -10,30 +10,19 @@ use Rattle.image.proofs.Enums.{frame-end}
 use borrow.Author.Needs.{needs}
 use Rattle.image.proofs.read_record.Statement.{statement}
 use Rattle.image.proofs.read_record.Tie as tie
-use Rattle.image.proofs.read_record.Reads as reads
-use Rattle.image.proofs.read_record.Lts as lts
-use Rattle.image.proofs.end_fault.Reads as end-fault-reads
-use Rattle.image.proofs.frame_at.Reads as frame-at-reads
-use Rattle.image.proofs.record_fault.Reads as record-fault-reads
-use Rattle.wire.proofs.byte_at.Reads as byte-at-reads
-use Rattle.wire.proofs.part_of.Reads as part-of-reads
 
--- src/lib.rt:321:9
 frame-at-requires : tie.Need-frame-at-requires
 frame-at-requires c κs = search needs
 
--- src/lib.rt:322:24
 enum-known-f : tie.Need-enum-known-f
 enum-known-f c = search needs
 
 enum-told : tie.Need-enum-told
 enum-told c = search needs
 
--- src/lib.rt:324:17
 end-fault-requires : tie.Need-end-fault-requires
 end-fault-requires c κs = search needs
 
--- src/lib.rt:326:17
 returns : tie.Need-returns
 unfolding recordOf
 returns c =
@@ -41,7 +30,6 @@ returns c =
     let e = sym (r .ensures) ∙ frame-end (r .result) (c .before .before .match2 .keys2) (c .before .before .before .match .keys2) in
     rw (e, ← c .before .end-fault .ensures) (search picks depth 6)
 
--- src/lib.rt:328:13
 returns-2 : tie.Need-returns-2
 unfolding recordOf
 returns-2 c =
@@ -49,20 +37,16 @@ returns-2 c =
     let e = sym (r .ensures) ∙ frame-end (r .result) (c .before .before .match2 .keys2) (c .before .before .before .match .keys2) in
     rw (e, ← c .before .end-fault .ensures) (search picks depth 6)
 
--- src/lib.rt:330:9
 returns-3 : tie.Need-returns-3
 unfolding recordOf
 returns-3 c = rw (sym (c .before .before .before .frame-at .ensures) ∙ c .enum-told .given .1)
 
--- src/lib.rt:332:9
 part-of-requires : tie.Need-part-of-requires
 part-of-requires c κs = search needs
 
--- src/lib.rt:333:9
 record-fault-requires : tie.Need-record-fault-requires
 record-fault-requires c κs = search needs
 
--- src/lib.rt:335:9
 returns-4 : tie.Need-returns-4
 unfolding recordOf
 returns-4 c =
@@ -70,11 +54,9 @@ returns-4 c =
     let f = c .before .record-fault .ensures ∙ ap (λ (body : List ℕ). recordFault (c .before .before .before .before .before .before .before .before .args .w) (c .before .before .before .before .f .given .0 .0) body) (c .before .before .part-of .ensures) in
     rw (e, ← f) (search picks depth 6)
 
--- src/lib.rt:337:9
 byte-at-requires : tie.Need-byte-at-requires
 byte-at-requires c κs = search needs
 
--- src/lib.rt:317:1
 returns-5 : tie.Need-returns-5
 unfolding recordOf
 returns-5 c =

@@ -1,8 +1,5 @@
 -- The frame behind the version byte decides the case; behind a good identity the walk reads the rest. Assumes nothing.
-use mathlib.Core.Path.{_≡_, sym, ap, _∙_}
-use mathlib.Core.List.{List, [], _∷_}
-use Prim.Native.Nat.{ℕ}
-use lib.ListN.{getD}
+use mathlib.Core.Path.{sym, ap, _∙_}
 use Rattle.image.specs.Reading.{identityFault, readAll}
 use Rattle.image.specs.Index.{answerOf}
 use Rattle.image.proofs.Enums.{frame-end}
@@ -11,68 +8,48 @@ use Rattle.image.proofs.First.{first-read, identity-bytes, other-kind, 
 use borrow.Author.Needs.{needs}
 use Rattle.image.proofs.read_records.Statement.{statement}
 use Rattle.image.proofs.read_records.Tie as tie
-use Rattle.image.proofs.read_records.Reads as reads
-use Rattle.image.proofs.read_records.Lts as lts
-use Rattle.image.proofs.frame_at.Reads as frame-at-reads
-use Rattle.image.proofs.identity_fault.Reads as identity-fault-reads
-use Rattle.image.proofs.refused.Reads as refused-reads
-use Rattle.image.proofs.walk.Reads as walk-reads
-use Rattle.wire.proofs.byte_at.Reads as byte-at-reads
-use Rattle.wire.proofs.part_of.Reads as part-of-reads
 
--- src/lib.rt:464:9
 frame-at-requires : tie.Need-frame-at-requires
 frame-at-requires c κs = search needs
 
--- src/lib.rt:465:24
 enum-known-f : tie.Need-enum-known-f
 enum-known-f c = search needs
 
 enum-told : tie.Need-enum-told
 enum-told c = search needs
 
--- src/lib.rt:467:13
 refused-requires : tie.Need-refused-requires
 refused-requires c κs = search needs
 
--- src/lib.rt:467:13
 returns : tie.Need-returns
 unfolding answerOf readAll followed
 returns c =
     let r = c .before .before .before .frame-at in
     c .refused .ensures ∙ ap answerOf (first-read _ _ (sym (r .ensures) ∙ frame-end (r .result) (c .before .match2 .keys2) (c .before .before .match .keys2)))
 
--- src/lib.rt:469:9
 refused-requires-2 : tie.Need-refused-requires-2
 refused-requires-2 c κs = search needs
 
--- src/lib.rt:469:9
 returns-2 : tie.Need-returns-2
 unfolding answerOf readAll followed
 returns-2 c = c .refused2 .ensures ∙ ap answerOf (first-read _ _ (sym (c .before .before .before .before .frame-at .ensures) ∙ c .before .enum-told .given .1))
 
--- src/lib.rt:472:9
 refused-requires-3 : tie.Need-refused-requires-3
 refused-requires-3 c κs = search needs
 
--- src/lib.rt:472:9
 returns-3 : tie.Need-returns-3
 unfolding answerOf
 returns-3 c = c .refused3 .ensures ∙ ap answerOf (other-kind _ _ _ _ (sym (c .before .before .before .before .before .frame-at .ensures) ∙ c .before .before .before .f .given .1) (c .before .if1 .taken))
 
--- src/lib.rt:474:9
 part-of-requires : tie.Need-part-of-requires
 part-of-requires c κs = search needs
 
--- src/lib.rt:475:9
 identity-fault-requires : tie.Need-identity-fault-requires
 identity-fault-requires c κs = search needs
 
--- src/lib.rt:477:9
 refused-requires-4 : tie.Need-refused-requires-4
 refused-requires-4 c κs = search needs
 
--- src/lib.rt:477:9
 returns-4 : tie.Need-returns-4
 unfolding answerOf
 returns-4 c =
@@ -80,25 +57,20 @@ returns-4 c =
     let f = c .before .before .identity-fault .ensures ∙ ap identityFault (c .before .before .before .part-of .ensures) in
     c .refused4 .ensures ∙ ap answerOf (identity-refused _ _ _ _ e (c .before .before .before .before .if1 .left) _ f (c .before .if2 .taken))
 
--- src/lib.rt:481:9
 byte-at-requires : tie.Need-byte-at-requires
 byte-at-requires c κs = search needs
 
--- src/lib.rt:482:9
 byte-at-requires-2 : tie.Need-byte-at-requires-2
 byte-at-requires-2 c κs = search needs
 
--- src/lib.rt:483:9
 byte-at-requires-3 : tie.Need-byte-at-requires-3
 byte-at-requires-3 c κs = search needs
 
--- src/lib.rt:479:5
 walk-requires : tie.Need-walk-requires
 walk-requires c κs =
     let f = sym (c .before .before .before .before .identity-fault .ensures) ∙ c .before .before .before .if2 .left in
     (c .before .before .before .before .before .before .before .before .before .before .before .before .pre, rw (c .before .before .byte-at .ensures, c .before .byte-at2 .ensures, c .byte-at3 .ensures) (ap identityFault (sym (identity-bytes _ f)) ∙ f))
 
--- src/lib.rt:460:1
 returns-5 : tie.Need-returns-5
 returns-5 c =
     let e = sym (c .before .before .before .before .before .before .before .before .before .before .before .frame-at .ensures) ∙ c .before .before .before .before .before .before .before .before .before .f .given .1 in

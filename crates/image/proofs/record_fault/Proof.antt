@@ -4,40 +4,28 @@ use Rattle.image.specs.Reading.{recordFault}
 use borrow.Author.Needs.{needs}
 use Rattle.image.proofs.record_fault.Statement.{statement}
 use Rattle.image.proofs.record_fault.Tie as tie
-use Rattle.image.proofs.record_fault.Reads as reads
-use Rattle.image.proofs.record_fault.Lts as lts
-use Rattle.image.proofs.chain_fault.Reads as chain-fault-reads
-use Rattle.image.proofs.measurement_fault.Reads as measurement-fault-reads
-use Rattle.image.proofs.summary_fault.Reads as summary-fault-reads
 
--- src/lib.rt:286:23
 chain-fault-requires : tie.Need-chain-fault-requires
 chain-fault-requires c κs = search needs
 
--- src/lib.rt:287:29
 measurement-fault-requires : tie.Need-measurement-fault-requires
 measurement-fault-requires c κs = search needs
 
--- src/lib.rt:288:25
 summary-fault-requires : tie.Need-summary-fault-requires
 summary-fault-requires c κs = search needs
 
--- src/lib.rt:281:1
 returns : tie.Need-returns
 unfolding recordFault
 returns c = rw (← c .chain-fault .ensures) (search picks depth 14)
 
--- src/lib.rt:281:1
 returns-2 : tie.Need-returns-2
 unfolding recordFault
 returns-2 c = rw (← c .measurement-fault .ensures) (search picks depth 14)
 
--- src/lib.rt:281:1
 returns-3 : tie.Need-returns-3
 unfolding recordFault
 returns-3 c = rw (← c .summary-fault .ensures) (search picks depth 14)
 
--- src/lib.rt:281:1
 returns-4 : tie.Need-returns-4
 unfolding recordFault
 returns-4 c = search picks depth 14

@@ -3,15 +3,11 @@ use Rattle.wire.proofs.Picks.{picks}
 use Rattle.image.specs.Reading.{slotWrong}
 use Rattle.image.proofs.slot_wrong.Statement.{statement}
 use Rattle.image.proofs.slot_wrong.Tie as tie
-use Rattle.image.proofs.slot_wrong.Reads as reads
-use Rattle.image.proofs.slot_wrong.Lts as lts
 
--- src/lib.rt:199:1
 returns : tie.Need-returns
 unfolding slotWrong
 returns c = search picks depth 14
 
--- src/lib.rt:199:1
 returns-2 : tie.Need-returns-2
 unfolding slotWrong
 returns-2 c = search picks depth 14

@@ -4,29 +4,22 @@ use Rattle.image.specs.Reading.{summaryFault}
 use borrow.Author.Needs.{needs}
 use Rattle.image.proofs.summary_fault.Statement.{statement}
 use Rattle.image.proofs.summary_fault.Tie as tie
-use Rattle.image.proofs.summary_fault.Reads as reads
-use Rattle.image.proofs.summary_fault.Lts as lts
 
--- src/lib.rt:270:9
 returns : tie.Need-returns
 unfolding summaryFault
 returns c = search picks depth 14
 
--- src/lib.rt:273:9
 returns-2 : tie.Need-returns-2
 unfolding summaryFault
 returns-2 c = search picks depth 14
 
--- src/lib.rt:275:22
 add-if3 : tie.Need-add-if3
 add-if3 c = search needs
 
--- src/lib.rt:276:9
 returns-3 : tie.Need-returns-3
 unfolding summaryFault
 returns-3 c = search picks depth 14
 
--- src/lib.rt:265:1
 returns-4 : tie.Need-returns-4
 unfolding summaryFault
 returns-4 c = search picks depth 14
