@@ -1,4 +1,6 @@
 // The reader of the provisioning image, and lookups in an image that it accepted.
+pub mod lookup;
+
 ghost use mathlib.Core.Path.{_≡_};
 ghost use mathlib.Core.List.{[], _∷_};
 ghost use Prim.Native.Nat.{_+_, _<_, _≤_};

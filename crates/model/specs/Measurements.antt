@@ -66,15 +66,18 @@ abbrev pub signatureOf : Facts → Signer → ℕ
 signatureOf f signer.Nobody = 0
 signatureOf f (signer.Slot k) = sigSize f
 
+-- steps 8 and 9
+unfoldable pub measurementsSized : Facts → State → Signer → Operation → Decision
+measurementsSized f s g o =
+    sizeSteps s (measurementsSize f o + signatureOf f g) (s .m + (layoutOf g + measurementsSize f o)) mLimit (Measurements o g)
+
+unfoldable pub operationStep : Facts → State → Signer → Operation → Decision
+operationStep f s g o = pick (operationFits f o) (measurementsSized f s g o) invalid
+
 unfoldable pub measurementsBy : Facts → State → List ℕ → Signer → Operation → Decision
 measurementsBy f s r g o =
     pick (ltb (length r) (layoutOf g)) invalid
-    (pick (signerFits f g)
-    (pick (operationFits f o)
-    (sizeSteps s (measurementsSize f o + signatureOf f g) (s .m + (layoutOf g + measurementsSize f o)) mLimit
-    (Measurements o g))
-    invalid)
-    invalid)
+    (pick (signerFits f g) (operationStep f s g o) invalid)
 
 unfoldable pub measurementsDecision : Facts → State → List ℕ → Decision
 measurementsDecision f s r = measurementsBy f s r (signerOf r) (operationOf (param2 r))

@@ -48,12 +48,12 @@ pub enum Signer {
 pub enum Decision {
     Number(u32),
     Error { code: u8, extra: u8 },
-    TooLarge { size: u32 },
+    TooLarge { size: usize },
     Version,
     Capabilities { peer: u32 },
-    Algorithms { length: u32, selection: u32 },
+    Algorithms { length: usize, selection: u32 },
     Digests,
-    Certificate { slot: SlotNumber, offset: u32, portion: u32, remainder: u32 },
+    Certificate { slot: SlotNumber, offset: usize, portion: usize, remainder: usize },
     Challenge { slot: SlotNumber, summary: u8 },
     Measurements { operation: Operation, signer: Signer },
 }

@@ -1,0 +1,4 @@
+pub mod Tests
+pub mod Lengths
+pub mod Told
+pub mod Ready
