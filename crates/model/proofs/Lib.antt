@@ -2,3 +2,4 @@ pub mod Tests
 pub mod Lengths
 pub mod Told
 pub mod Ready
+pub mod SameFacts

@@ -29,7 +29,7 @@ use Rattle.model.specs.declared.Signer.the-variants as signer
 use Rattle.model.specs.declared.Decision.{Decision}
 use Rattle.model.specs.declared.Decision.the-variants as decision
 use Rattle.model.proofs.Tests.{counts}
-use Rattle.model.proofs.Lengths.{capabilities-length, algorithms-length, digests-length, digests-most, certificate-length, challenge-length, challenge-most, measurements-length, measurements-most}
+use Rattle.model.proofs.Lengths.{version-length, capabilities-length, algorithms-length, digests-length, digests-most, certificate-length, challenge-length, challenge-most, measurements-length, measurements-most}
 use Rattle.model.proofs.Told.{Called, Told, told}
 
 -- an accepted request: its answer and what is appended have room
@@ -64,7 +64,7 @@ module _ (c : Contents) (v : Valid c) (s : State) (answerLength lentLength : ℕ
   by-decision (decision.Number k) z = tt
   by-decision (decision.Error code extra) z = (z .buffer, omega arith)
   by-decision (decision.TooLarge size) z = (z .buffer, omega arith)
-  by-decision decision.Version z = enough (z .0) versionBytes _ _ 8 versionBytes refl (z .1) refl (omega arith) (omega arith)
+  by-decision decision.Version z = enough (z .0) versionBytes _ _ 8 versionBytes refl (z .1) version-length (omega arith) (omega arith)
   by-decision (decision.Capabilities peer) z =
       enough (z .0) (capabilitiesBytes c) _ _ 20 (capabilitiesBytes c) refl (z .1 .long) (capabilities-length c) (omega (arith, capabilities-length c)) (omega (arith, z .1 .used))
   by-decision (decision.Algorithms layout selection) z =
