@@ -3,3 +3,4 @@ pub mod Lengths
 pub mod Told
 pub mod Ready
 pub mod SameFacts
+pub mod Hashed

@@ -8,7 +8,7 @@ use lib.Dec.{eqb}
 use Rattle.wire.specs.Bytes.{part, splice}
 use Rattle.wire.specs.Pick.{pick}
 use Rattle.image.specs.Reading.{reading}
-use Rattle.model.specs.Limits.{aStart, bStart, mStart, aLimit, bLimit, mLimit, awaitsChallenge}
+use Rattle.model.specs.Limits.{aStart, bStart, mStart, aLimit, bLimit, mLimit, awaitsChallenge, awaitsMeasurements}
 use Rattle.model.specs.Effects.{Part, inA, inB, inM, partFor, keeps, Change, Effect, host, refuse, accept, effectBy, replyOf, bytesOf}
 use Rattle.model.specs.Signing.{finishBy, finishReply, failedBytes}
 use Rattle.model.specs.Plain.{samePart}
@@ -36,6 +36,13 @@ countOf inM s = s .m
 -- a part as it stands in the transcript
 abbrev pub partIn : Part → State → List ℕ → List ℕ
 partIn x s t = part t (startOf x) (countOf x s)
+
+-- "It hashes A then B (or A then M), each shown as a part of the lent buffer"; nothing where no signature is awaited
+unfoldable pub signedFirst : State → List ℕ → List ℕ
+signedFirst s t = pick (eqb (s .awaited) awaitsChallenge) (partIn inA s t) (pick (eqb (s .awaited) awaitsMeasurements) (partIn inA s t) [])
+
+unfoldable pub signedSecond : State → List ℕ → List ℕ
+signedSecond s t = pick (eqb (s .awaited) awaitsChallenge) (partIn inB s t) (pick (eqb (s .awaited) awaitsMeasurements) (partIn inM s t) [])
 
 -- "Emptying changes a count, no bytes"
 abbrev pub countKept : Part → Change → State → ℕ
