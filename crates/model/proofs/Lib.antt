@@ -4,3 +4,4 @@ pub mod Told
 pub mod Ready
 pub mod SameFacts
 pub mod Hashed
+pub mod Flows

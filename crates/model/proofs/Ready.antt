@@ -17,7 +17,7 @@ use Rattle.model.specs.Facts.{factsOf}
 use Rattle.model.specs.Version.{versionBytes}
 use Rattle.model.specs.Capabilities.{capabilitiesBytes}
 use Rattle.model.specs.Algorithms.{algorithmsBytes}
-use Rattle.model.specs.Digests.{digestsBytes}
+use Rattle.model.specs.Digests.{digestsSize, digestsBytes}
 use Rattle.model.specs.Certificate.{certificateBytes}
 use Rattle.model.specs.Challenge.{challengeSize, challengeBytes}
 use Rattle.model.specs.Measurements.{measurementsSize, measurementsBytes}
@@ -66,12 +66,15 @@ module _ (c : Contents) (v : Valid c) (s : State) (answerLength lentLength : ℕ
   by-decision (decision.TooLarge size) z = (z .buffer, omega arith)
   by-decision decision.Version z = enough (z .0) versionBytes _ _ 8 versionBytes refl (z .1) version-length (omega arith) (omega arith)
   by-decision (decision.Capabilities peer) z =
-      enough (z .0) (capabilitiesBytes c) _ _ 20 (capabilitiesBytes c) refl (z .1 .long) (capabilities-length c) (omega (arith, capabilities-length c)) (omega (arith, z .1 .used))
+      let l : length (capabilitiesBytes c) ≡ 20 = capabilities-length c in
+      enough (z .0) (capabilitiesBytes c) _ _ 20 (capabilitiesBytes c) refl (z .1 .long) l (omega arith) (omega (arith, z .1 .used))
   by-decision (decision.Algorithms layout selection) z =
-      enough (z .0) (algorithmsBytes c selection) _ _ 36 (algorithmsBytes c selection) refl (z .1 .long) (algorithms-length c selection)
-      (omega (arith, algorithms-length c selection)) (omega (arith, z .1 .used, z .1 .most))
+      let body : List ℕ = algorithmsBytes c selection in
+      let l : length body ≡ 36 = algorithms-length c selection in
+      enough (z .0) body _ _ 36 body refl (z .1 .long) l (omega arith) (omega (arith, z .1 .used, z .1 .most))
   by-decision decision.Digests z =
-      enough (z .0) (digestsBytes c) _ _ _ (digestsBytes c) refl (z .1 .long) (digests-length c v) (omega (arith, digests-length c v, digests-most c v)) (z .1 .sized .room)
+      let l : length (digestsBytes c) ≡ digestsSize (factsOf c) = digests-length c v in
+      enough (z .0) (digestsBytes c) _ _ _ (digestsBytes c) refl (z .1 .long) l (omega (arith, digests-most c v)) (z .1 .sized .room)
   by-decision (decision.Certificate slot offset portion remainder) z =
       let body : List ℕ = certificateBytes c (slot .0) offset portion remainder in
       let l : length body ≡ certificateHead + portion = certificate-length c (slot .0) offset portion remainder (omega (arith, z .1 .whole)) in
