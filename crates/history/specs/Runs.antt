@@ -78,19 +78,31 @@ boxSaid h (sign image answer lent ok signature) =
 -- the box as a plain box: its parts as they stand in the transcript
 abbrev pub view : Held → Plain
 view h = record {
-    phase = h .state .phase; peer = h .state .peer; selection = h .state .selection;
-    A = partIn inA (h .state) (h .transcript); B = partIn inB (h .state) (h .transcript); M = partIn inM (h .state) (h .transcript);
-    awaited = h .state .awaited; answer = h .awaited }
+  phase = h .state .phase;
+  peer = h .state .peer;
+  selection = h .state .selection;
+  A = partIn inA (h .state) (h .transcript);
+  B = partIn inB (h .state) (h .transcript);
+  M = partIn inM (h .state) (h .transcript);
+  awaited = h .state .awaited;
+  answer = h .awaited;
+}
 
 -- what the box shows after each call of a list: the awaited answer's length is the state's own
 abbrev pub boxShows : Said → Held → Shown
 boxShows said h = record {
-    said = said;
-    awaited = h .state .awaited; answerLength = h .state .answer;
-    prefix = prefixOf (h .state .awaited);
-    hashed = toHash (h .state .awaited) (partIn inA (h .state) (h .transcript)) (partIn inB (h .state) (h .transcript)) (partIn inM (h .state) (h .transcript));
-    phase = h .state .phase; peer = h .state .peer; selection = h .state .selection;
-    A = partIn inA (h .state) (h .transcript); B = partIn inB (h .state) (h .transcript); M = partIn inM (h .state) (h .transcript) }
+  said = said;
+  awaited = h .state .awaited;
+  answerLength = h .state .answer;
+  prefix = prefixOf (h .state .awaited);
+  hashed = toHash (h .state .awaited) (partIn inA (h .state) (h .transcript)) (partIn inB (h .state) (h .transcript)) (partIn inM (h .state) (h .transcript));
+  phase = h .state .phase;
+  peer = h .state .peer;
+  selection = h .state .selection;
+  A = partIn inA (h .state) (h .transcript);
+  B = partIn inB (h .state) (h .transcript);
+  M = partIn inM (h .state) (h .transcript);
+}
 
 unfoldable pub boxRun : Held → List Call → List Shown
 boxRun h [] = []

@@ -103,10 +103,10 @@ frames-read b at =
     pick-case (λ (f : Frame). followed b f ≡ framesAt b at) _ _ _
     (λ t. at-end b at (leb-true _ _ t))
     (λ t₁. pick-case (λ (f : Frame). followed b f ≡ framesAt b at) _ _ _
-      (λ t. at-short b at (leb-false _ _ t₁) (ltb-true _ _ t))
-      (λ t₂. pick-case (λ (f : Frame). followed b f ≡ framesAt b at) _ _ _
-        (λ t. at-long b at (ltb-false _ _ t₂) (ltb-true _ _ t))
-        (λ t₃. next b at (ltb-false _ _ t₂) (ltb-false _ _ t₃))))
+    (λ t. at-short b at (leb-false _ _ t₁) (ltb-true _ _ t))
+    (λ t₂. pick-case (λ (f : Frame). followed b f ≡ framesAt b at) _ _ _
+    (λ t. at-long b at (ltb-false _ _ t₂) (ltb-true _ _ t))
+    (λ t₃. next b at (ltb-false _ _ t₂) (ltb-false _ _ t₃))))
 
 -- the records behind the version byte
 pub frames-whole : (b : List ℕ) → framesAt b 1 ≡ framesOf (length b) (drop 1 b)
@@ -129,9 +129,12 @@ whole-within b at kind start len e =
   where
     no-end : {k s l : ℕ} → fr.End ≡ fr.Whole k s l → ⊥
     no-end e = let z : _≡_ {A = ℕ} 0 1 = cc in omega arith
+
     no-broken : {k s l : ℕ} → fr.Broken ≡ fr.Whole k s l → ⊥
     no-broken e = let z : _≡_ {A = ℕ} 0 1 = cc in omega arith
+
     same-start : {k k′ s s′ l l′ : ℕ} → fr.Whole k s l ≡ fr.Whole k′ s′ l′ → s ≡ s′
     same-start e = cc
+
     same-length : {k k′ s s′ l l′ : ℕ} → fr.Whole k s l ≡ fr.Whole k′ s′ l′ → l ≡ l′
     same-length e = cc

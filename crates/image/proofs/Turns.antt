@@ -61,12 +61,12 @@ taken b w fr.Broken kind key start len e = let z : _≡_ {A = ℕ} 0 1 = cc in a
 taken b w (fr.Whole k s l) kind key start len e =
     either (Taken b w (fr.Whole k s l) kind key start len) _ _ _ _ e
     (λ t g.
-      let ek : k ≡ kind = cc in
-      let es : s ≡ start = cc in
-      let el : l ≡ len = cc in
-      let f : recordFault w k (part b s l) ≡ 0 = eqb-true (recordFault w k (part b s l)) 0 t in
-      let y : getD (part b s l) 0 0 ≡ key = cc in
-      record { whole = cc; fine = rw (ek, es, el) at f; keyed = rw (es, el) at y })
+    let ek : k ≡ kind = cc in
+    let es : s ≡ start = cc in
+    let el : l ≡ len = cc in
+    let f : recordFault w k (part b s l) ≡ 0 = eqb-true (recordFault w k (part b s l)) 0 t in
+    let y : getD (part b s l) 0 0 ≡ key = cc in
+    record { whole = cc; fine = rw (ek, es, el) at f; keyed = rw (es, el) at y })
     (λ t g. let z : _≡_ {A = ℕ} 0 1 = cc in absurd (omega arith))
 
 -- where the records of contents stand
@@ -151,14 +151,14 @@ unfolding extended recordFault identityBytes
 places-extended c kind body start s f e =
     pick-map placed _ _ _ _ _
     (λ t.
-      let g : chainFault (seen c) body ≡ 0 = when-true _ _ _ _ f t in
-      let m : c .measurements ≡ [] = empty (c .measurements) (omega (arith, chain-first c body g)) in
-      places-chain c (chainIn (digestSize (c .hash)) body) start m (empty (c .summaries) (omega (arith, chain-first c body g, s .behind))) e)
+    let g : chainFault (seen c) body ≡ 0 = when-true _ _ _ _ f t in
+    let m : c .measurements ≡ [] = empty (c .measurements) (omega (arith, chain-first c body g)) in
+    places-chain c (chainIn (digestSize (c .hash)) body) start m (empty (c .summaries) (omega (arith, chain-first c body g, s .behind))) e)
     (λ t. pick-map placed _ _ _ _ _
-      (λ u.
-        let g : measurementFault (seen c) body ≡ 0 = when-true _ _ _ _ (when-false _ _ _ _ f t) u in
-        places-measurement c (measurementIn body) start (empty (c .summaries) (omega (arith, measurement-first c body g))) e)
-      (λ u. refl))
+    (λ u.
+    let g : measurementFault (seen c) body ≡ 0 = when-true _ _ _ _ (when-false _ _ _ _ f t) u in
+    places-measurement c (measurementIn body) start (empty (c .summaries) (omega (arith, measurement-first c body g))) e)
+    (λ u. refl))
 
 -- the slot of a chain without a fault
 slot-fits : (w : Seen) (kind : ℕ) (body : List ℕ) → recordFault w kind body ≡ 0 → kind ≡ chainKind → getD body 0 0 ≤ slotLimit
@@ -186,13 +186,22 @@ pub record Reached (b : List ℕ) (c₀ : Contents) (at : ℕ) (w : Seen) (p : P
 -- before the first turn
 pub reached-first : (b : List ℕ) (exponent hash signature size : ℕ) → identityFault (exponent ∷ hash ∷ signature ∷ []) ≡ 0 → size ≡ digestSize hash
     → Reached b (identityAt exponent hash signature) identityEnd
-      (record { size = size; chains = 0; slot = 0; measurements = 0; index = 0; summaries = 0 })
-      (record { bodies = noPlaces; first = 0 })
+    (record { size = size; chains = 0; slot = 0; measurements = 0; index = 0; summaries = 0 })
+    (record { bodies = noPlaces; first = 0 })
 unfolding placesOf firstOf recordBytes
 reached-first b exponent hash signature size f e =
     let g = identity-grown (exponent ∷ hash ∷ signature ∷ []) f in
-    record { held = identityAt exponent hash signature; same = refl; sound = g .sound; seeing = rw e; places = refl;
-      place = sym (ap length (g .bytes)); exponent = refl; hash = refl; signature = refl }
+    record {
+      held = identityAt exponent hash signature;
+      same = refl;
+      sound = g .sound;
+      seeing = rw e;
+      places = refl;
+      place = sym (ap length (g .bytes));
+      exponent = refl;
+      hash = refl;
+      signature = refl;
+    }
 
 -- the identity stays
 extended-identity : (P : ℕ → ℕ → ℕ → Type 0) (c : Contents) (kind : ℕ) (body : List ℕ) → P (c .exponent) (c .hash) (c .signature)
@@ -256,13 +265,15 @@ module _ {b : List ℕ} {c₀ : Contents} {at : ℕ} {w : Seen} {p : Places} (r 
         let d = record-length kind body in
         let z = r .place in
         let a : start ≡ length (imageBytes c) + headLength = omega arith in
-        record { held = extended c kind body;
+        record {
+          held = extended c kind body;
           same = here ∙ ap (concluded b c) e;
           sound = g .sound;
           seeing = ap (λ (v : Seen). seenAfter v kind key) (r .seeing) ∙ ap (seenAfter (seen c) kind) (sym (t .keyed)) ∙ sym (seen-extended c kind body);
           places = ap (λ (v : Seen). placesAfter p v kind key start) (r .seeing) ∙ ap (λ (q : Places). placesAfter q (seen c) kind key start) (r .places)
-            ∙ ap (λ (y : ℕ). placesAfter (placed c) (seen c) kind y start) (sym (t .keyed)) ∙ sym (places-extended c kind body start (r .sound) f a);
+              ∙ ap (λ (y : ℕ). placesAfter (placed c) (seen c) kind y start) (sym (t .keyed)) ∙ sym (places-extended c kind body start (r .sound) f a);
           place = omega arith;
           exponent = extended-identity (λ x y z. x ≡ c₀ .exponent) c kind body (r .exponent);
           hash = extended-identity (λ x y z. y ≡ c₀ .hash) c kind body (r .hash);
-          signature = extended-identity (λ x y z. z ≡ c₀ .signature) c kind body (r .signature) }
+          signature = extended-identity (λ x y z. z ≡ c₀ .signature) c kind body (r .signature);
+        }

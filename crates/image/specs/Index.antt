@@ -46,13 +46,14 @@ chainsEnd c = length (identityBytes c ++ recordsBytes chainKind chainBody (c .ch
 
 abbrev pub indexOf : Contents → Index
 indexOf c = record {
-    exponent = c .exponent;
-    hash = c .hash;
-    signature = c .signature;
-    chains = length (c .chains);
-    measurements = length (c .measurements);
-    places = placesOf (length (identityBytes c)) (c .chains) noPlaces;
-    first = firstOf (chainsEnd c) (c .measurements) }
+  exponent = c .exponent;
+  hash = c .hash;
+  signature = c .signature;
+  chains = length (c .chains);
+  measurements = length (c .measurements);
+  places = placesOf (length (identityBytes c)) (c .chains) noPlaces;
+  first = firstOf (chainsEnd c) (c .measurements);
+}
 
 abbrev pub noIndex : Index
 noIndex = record { exponent = 0; hash = 0; signature = 0; chains = 0; measurements = 0; places = noPlaces; first = 0 }

@@ -46,12 +46,13 @@ lastOf xs = lastFrom 0 xs
 -- what the tests of a record need of the records before it
 abbrev pub seen : Contents → Seen
 seen c = record {
-    size = digestSize (c .hash);
-    chains = length (c .chains);
-    slot = lastOf (slots (c .chains));
-    measurements = length (c .measurements);
-    index = lastOf (indices (c .measurements));
-    summaries = length (c .summaries) }
+  size = digestSize (c .hash);
+  chains = length (c .chains);
+  slot = lastOf (slots (c .chains));
+  measurements = length (c .measurements);
+  index = lastOf (indices (c .measurements));
+  summaries = length (c .summaries);
+}
 
 -- The faults of a record, in numeric order: the number of the first, 0 where there is none.
 

@@ -60,10 +60,11 @@ placesAfter p w kind key start =
 
 abbrev pub indexFrom : ℕ → ℕ → ℕ → Seen → Places → Index
 indexFrom exponent hash signature w p = record {
-    exponent = exponent;
-    hash = hash;
-    signature = signature;
-    chains = w .chains;
-    measurements = w .measurements;
-    places = p .bodies;
-    first = p .first }
+  exponent = exponent;
+  hash = hash;
+  signature = signature;
+  chains = w .chains;
+  measurements = w .measurements;
+  places = p .bodies;
+  first = p .first;
+}

@@ -16,37 +16,64 @@ ghost use lib.Dec.{eqb};
 
 // The paper's limits; specs/Limits.antt has each with its sentence.
 const IMAGE_LIMIT: usize = 36864;
+
 const IMAGE_VERSION: u8 = 1;
+
 const HEAD_LENGTH: usize = 3;
+
 const IDENTITY_KIND: u8 = 1;
+
 const CHAIN_KIND: u8 = 2;
+
 const MEASUREMENT_KIND: u8 = 3;
+
 const SUMMARY_KIND: u8 = 4;
+
 const IDENTITY_LENGTH: usize = 3;
+
 const IDENTITY_END: usize = 7;
+
 const EXPONENT_LIMIT: u8 = 31;
+
 const HASH_LIMIT: u8 = 5;
+
 const SIGNATURE_LIMIT: u8 = 8;
+
 const SLOT_LIMIT: u8 = 7;
+
 const SLOT_COUNT: usize = 8;
+
 const CHAINS_LIMIT: u8 = 8;
+
 const CHAIN_LEAST: usize = 5;
+
 const CHAIN_LIMIT: usize = 4096;
+
 const INDEX_LIMIT: u8 = 239;
+
 const TYPE_LIMIT: u8 = 3;
+
 const MEASUREMENTS_LIMIT: u8 = 32;
 
 // The numbers that the host sees.
 const WRONG_SIZE: u8 = 1;
+
 const WRONG_VERSION: u8 = 2;
+
 const BROKEN_RECORD: u8 = 3;
+
 const WRONG_KIND: u8 = 4;
+
 const TOO_MANY: u8 = 5;
+
 const WRONG_LENGTH: u8 = 6;
+
 const WRONG_FIELD: u8 = 7;
+
 const WRONG_OWN_LENGTH: u8 = 8;
 
 const DIGEST_SIZES: [usize; 6] = [32, 48, 64, 32, 48, 64];
+
 const SIGNATURE_SIZES: [usize; 9] = [256, 256, 384, 384, 64, 512, 512, 96, 132];
 
 // The bytes of a digest of the hash with that bit number, 0 where there is none.
@@ -163,7 +190,12 @@ enum Frame {
 // A record held against those before it. The key of a good one is its body's first byte: the slot of a chain, the index of a
 // measurement.
 enum Record {
-    Good { kind: u8, key: u8, start: usize, len: usize },
+    Good {
+        kind: u8,
+        key: u8,
+        start: usize,
+        len: usize,
+    },
     End,
     Refused(u8),
 }

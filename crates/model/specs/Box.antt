@@ -53,9 +53,15 @@ countAfter x c s = countKept x c s + pick (samePart x (partFor (c .kind))) (leng
 
 abbrev pub changedState : Change → State → State
 changedState c s = record {
-    phase = c .phase; peer = c .peer; selection = c .selection;
-    a = countAfter inA c s; b = countAfter inB c s; m = countAfter inM c s;
-    awaited = c .awaited; answer = length (c .answer) }
+  phase = c .phase;
+  peer = c .peer;
+  selection = c .selection;
+  a = countAfter inA c s;
+  b = countAfter inB c s;
+  m = countAfter inM c s;
+  awaited = c .awaited;
+  answer = length (c .answer);
+}
 
 -- "every transcript byte but those appended stays"
 abbrev pub placeFor : Change → State → ℕ
@@ -82,9 +88,15 @@ pub record Responded (e : Effect) (s : State) (t u before after : List ℕ) (o :
 -- "B (or M) is emptied"
 abbrev pub emptiedState : State → State
 emptiedState s = record {
-    phase = s .phase; peer = s .peer; selection = s .selection;
-    a = s .a; b = pick (eqb (s .awaited) awaitsChallenge) 0 (s .b); m = pick (eqb (s .awaited) awaitsChallenge) (s .m) 0;
-    awaited = 0; answer = 0 }
+  phase = s .phase;
+  peer = s .peer;
+  selection = s .selection;
+  a = s .a;
+  b = pick (eqb (s .awaited) awaitsChallenge) 0 (s .b);
+  m = pick (eqb (s .awaited) awaitsChallenge) (s .m) 0;
+  awaited = 0;
+  answer = 0;
+}
 
 abbrev pub finishedState : Finish → State → State
 finishedState (finish.Number k) s = s

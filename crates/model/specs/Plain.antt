@@ -31,9 +31,15 @@ freshPlain = record { phase = 0; peer = 0; selection = 0; A = []; B = []; M = []
 -- "14 and step 9 tested on what it holds": its numbers as a state
 abbrev pub stateOf : Plain → State
 stateOf p = record {
-    phase = p .phase; peer = p .peer; selection = p .selection;
-    a = length (p .A); b = length (p .B); m = length (p .M);
-    awaited = p .awaited; answer = length (p .answer) }
+  phase = p .phase;
+  peer = p .peer;
+  selection = p .selection;
+  a = length (p .A);
+  b = length (p .B);
+  m = length (p .M);
+  awaited = p .awaited;
+  answer = length (p .answer);
+}
 
 abbrev pub samePart : Part → Part → Bool
 samePart inA inA = true
@@ -52,9 +58,15 @@ listAfter x c l = pick (keeps x (c .kind)) l [] ++ pick (samePart x (partFor (c 
 
 abbrev pub changed : Change → Plain → Plain
 changed c p = record {
-    phase = c .phase; peer = c .peer; selection = c .selection;
-    A = listAfter inA c (p .A); B = listAfter inB c (p .B); M = listAfter inM c (p .M);
-    awaited = c .awaited; answer = c .answer }
+  phase = c .phase;
+  peer = c .peer;
+  selection = c .selection;
+  A = listAfter inA c (p .A);
+  B = listAfter inB c (p .B);
+  M = listAfter inM c (p .M);
+  awaited = c .awaited;
+  answer = c .answer;
+}
 
 -- "Refused: .. nothing changes. Accepted request: answer and changes by its rules"
 abbrev pub plainAfter : Effect → Plain → Plain
@@ -65,9 +77,15 @@ plainAfter (accept bytes change) p = changed change p
 -- "B (or M) is emptied, nothing is awaited"
 abbrev pub emptied : Plain → Plain
 emptied p = record {
-    phase = p .phase; peer = p .peer; selection = p .selection;
-    A = p .A; B = pick (eqb (p .awaited) awaitsChallenge) [] (p .B); M = pick (eqb (p .awaited) awaitsChallenge) (p .M) [];
-    awaited = 0; answer = [] }
+  phase = p .phase;
+  peer = p .peer;
+  selection = p .selection;
+  A = p .A;
+  B = pick (eqb (p .awaited) awaitsChallenge) [] (p .B);
+  M = pick (eqb (p .awaited) awaitsChallenge) (p .M) [];
+  awaited = 0;
+  answer = [];
+}
 
 abbrev pub plainFinished : Finish → Plain → Plain
 plainFinished (finish.Number k) p = p
@@ -121,7 +139,15 @@ pub record Shown : Type 0 where
 
 abbrev pub shows : Said → Plain → Shown
 shows said p = record {
-    said = said;
-    awaited = p .awaited; answerLength = length (p .answer); prefix = prefixOf (p .awaited); hashed = toHash (p .awaited) (p .A) (p .B) (p .M);
-    phase = p .phase; peer = p .peer; selection = p .selection;
-    A = p .A; B = p .B; M = p .M }
+  said = said;
+  awaited = p .awaited;
+  answerLength = length (p .answer);
+  prefix = prefixOf (p .awaited);
+  hashed = toHash (p .awaited) (p .A) (p .B) (p .M);
+  phase = p .phase;
+  peer = p .peer;
+  selection = p .selection;
+  A = p .A;
+  B = p .B;
+  M = p .M;
+}

@@ -1,5 +1,6 @@
 // SPDM's vocabulary as types: the connection state, the kinds of request, and what a call comes to. The rules are in specs/.
-use image::{MeasurementIndex, SlotNumber};
+use image::MeasurementIndex;
+use image::SlotNumber;
 
 // The connection state as the host holds it between two calls; all zero is fresh.
 pub struct State {
@@ -47,15 +48,36 @@ pub enum Signer {
 // that its answer needs.
 pub enum Decision {
     Number(u32),
-    Error { code: u8, extra: u8 },
-    TooLarge { size: usize },
+    Error {
+        code: u8,
+        extra: u8,
+    },
+    TooLarge {
+        size: usize,
+    },
     Version,
-    Capabilities { peer: u32 },
-    Algorithms { length: usize, selection: u32 },
+    Capabilities {
+        peer: u32,
+    },
+    Algorithms {
+        length: usize,
+        selection: u32,
+    },
     Digests,
-    Certificate { slot: SlotNumber, offset: usize, portion: usize, remainder: usize },
-    Challenge { slot: SlotNumber, summary: u8 },
-    Measurements { operation: Operation, signer: Signer },
+    Certificate {
+        slot: SlotNumber,
+        offset: usize,
+        portion: usize,
+        remainder: usize,
+    },
+    Challenge {
+        slot: SlotNumber,
+        summary: u8,
+    },
+    Measurements {
+        operation: Operation,
+        signer: Signer,
+    },
 }
 
 // What a finishing comes to.

@@ -45,8 +45,12 @@ module _ (s : State) (t u before after r whole bytes : List ℕ) (layout n : ℕ
       → o .reply ≡ reply.Answer (length whole) → o .state ≡ changedState change s
       → Responded (accept whole change) s t u before after o
   accepted e l f w h k place i a p q =
-      record { reply = p; state = q; answer = w;
-        transcript = a ∙ ap (λ (x : List ℕ). splice t place (take layout r ++ x)) (read-front before after whole n w h k ∙ f) ∙ ap (splice t place) (sym e) ∙ ap (λ (x : ℕ). splice t x (change .bytes)) i }
+      record {
+        reply = p;
+        state = q;
+        answer = w;
+        transcript = a ∙ ap (λ (x : List ℕ). splice t place (take layout r ++ x)) (read-front before after whole n w h k ∙ f) ∙ ap (splice t place) (sym e) ∙ ap (λ (x : ℕ). splice t x (change .bytes)) i;
+      }
 
 -- an answer without a signature is appended whole
 pub whole-front : (bytes : List ℕ) (n : ℕ) → length bytes ≡ n → take n bytes ≡ bytes
@@ -63,8 +67,8 @@ zeros-length bytes n k e = simp (length-append, length-replicate, e)
 -- states that agree in every number
 pub same-state : (phase peer selection a b m awaited answer a′ b′ m′ answer′ : ℕ) → a ≡ a′ → b ≡ b′ → m ≡ m′ → answer ≡ answer′
     → _≡_ {A = State}
-      (record { phase = phase; peer = peer; selection = selection; a = a; b = b; m = m; awaited = awaited; answer = answer })
-      (record { phase = phase; peer = peer; selection = selection; a = a′; b = b′; m = m′; awaited = awaited; answer = answer′ })
+    (record { phase = phase; peer = peer; selection = selection; a = a; b = b; m = m; awaited = awaited; answer = answer })
+    (record { phase = phase; peer = peer; selection = selection; a = a′; b = b′; m = m′; awaited = awaited; answer = answer′ })
 same-state phase peer selection a b m awaited answer a′ b′ m′ answer′ e f g h = rw (e, f, g, h)
 
 -- MEASUREMENTS, with or without a signature asked

@@ -1,7 +1,11 @@
 // NEGOTIATE_ALGORITHMS and ALGORITHMS.
+use super::limits::ALGORITHMS_LEAST;
+use super::limits::ALGORITHMS_MOST;
+use super::limits::TYPE_LEAST;
+use super::limits::TYPE_MOST;
+use super::limits::VERSION_12;
 use image::Index;
 use model::Decision;
-use super::limits::{ALGORITHMS_LEAST, ALGORITHMS_MOST, TYPE_LEAST, TYPE_MOST, VERSION_12};
 ghost use mathlib.Core.Path.{_≡_};
 ghost use mathlib.Core.List.{List};
 ghost use Prim.Native.Nat.{ℕ, _^_, _≤_, _-_};
@@ -113,11 +117,42 @@ pub fn write_algorithms(answer: &mut [u8], ix: Index, selection: u32)
     let asym = bit(ix.signature);
     let hash = bit(ix.hash);
     let m = [
-        VERSION_12, 0x63, 0, 0, 36, 0, selection as u8, 0,
-        (measured % 256) as u8, 0, 0, 0,
-        (asym % 256) as u8, (asym / 256 % 256) as u8, 0, 0,
-        (hash % 256) as u8, 0, 0, 0,
-        0, 0, 0, 0, 0, 0, 0, 0, 0, 0, 0, 0, 0, 0, 0, 0,
+        VERSION_12,
+        0x63,
+        0,
+        0,
+        36,
+        0,
+        selection as u8,
+        0,
+        (measured % 256) as u8,
+        0,
+        0,
+        0,
+        (asym % 256) as u8,
+        (asym / 256 % 256) as u8,
+        0,
+        0,
+        (hash % 256) as u8,
+        0,
+        0,
+        0,
+        0,
+        0,
+        0,
+        0,
+        0,
+        0,
+        0,
+        0,
+        0,
+        0,
+        0,
+        0,
+        0,
+        0,
+        0,
+        0,
     ];
     wire::copy_into(answer, 0, &m);
 }

@@ -1,11 +1,4 @@
 // What each decision does: the answer is written, the exchange appended, and the next state made.
-use image::Index;
-use image::SlotNumber;
-use model::Operation;
-use model::Outcome;
-use model::Reply;
-use model::Signer;
-use model::State;
 use super::limits::AWAITS_CHALLENGE;
 use super::limits::AWAITS_MEASUREMENTS;
 use super::limits::B_START;
@@ -18,6 +11,13 @@ use super::limits::M_START;
 use super::limits::RESPONSE_TOO_LARGE;
 use super::limits::VERSION_10;
 use super::limits::VERSION_12;
+use image::Index;
+use image::SlotNumber;
+use model::Operation;
+use model::Outcome;
+use model::Reply;
+use model::Signer;
+use model::State;
 ghost use mathlib.Core.Path.{_≡_};
 ghost use mathlib.Core.List.{List};
 ghost use Prim.Native.Nat.{ℕ, _+_, _≤_};
@@ -109,12 +109,26 @@ fn appended_to_a(s: State, phase: u32, peer: u32, selection: u32, used: usize) -
     }
 }
 
-pub fn accept_capabilities(ix: Index, s: State, transcript: &mut [u8], answer: &mut [u8], request: &[u8], peer: u32) -> Outcome
+pub fn accept_capabilities(
+    ix: Index,
+    s: State,
+    transcript: &mut [u8],
+    answer: &mut [u8],
+    request: &[u8],
+    peer: u32,
+) -> Outcome
     requires { ⌜ (Within s) × ((messageLimit ≤ length (now answer)) × CapabilitiesTold s (now request) peer) ⌝ }
     ensures { λ o. ⌜ ((c : Contents) (nonce b : List ℕ) → ReadAs b ix c → Responded (effectOf (decision.Capabilities peer) c s nonce (now (request .entry))) s (now (transcript .entry)) (now (transcript .exit)) (now (answer .entry)) (now (answer .exit)) o) ⌝ }
 {
     super::capabilities::write_capabilities(answer, ix);
-    super::transcript::append(transcript, s.a as usize, request, CAPABILITIES_LAYOUT, answer, 20);
+    super::transcript::append(
+        transcript,
+        s.a as usize,
+        request,
+        CAPABILITIES_LAYOUT,
+        answer,
+        20,
+    );
     let state = appended_to_a(s, 2, peer, 0, CAPABILITIES_LAYOUT + 20);
     Outcome {
         reply: Reply::Answer(20),
@@ -122,7 +136,15 @@ pub fn accept_capabilities(ix: Index, s: State, transcript: &mut [u8], answer: &
     }
 }
 
-pub fn accept_algorithms(ix: Index, s: State, transcript: &mut [u8], answer: &mut [u8], request: &[u8], layout: usize, selection: u32) -> Outcome
+pub fn accept_algorithms(
+    ix: Index,
+    s: State,
+    transcript: &mut [u8],
+    answer: &mut [u8],
+    request: &[u8],
+    layout: usize,
+    selection: u32,
+) -> Outcome
     requires { ⌜ (Within s) × ((messageLimit ≤ length (now answer)) × (Fine ix × ((b : List ℕ) → AlgorithmsTold (factsAt b ix) s (now request) layout selection))) ⌝ }
     ensures { λ o. ⌜ ((c : Contents) (nonce b : List ℕ) → ReadAs b ix c → Responded (effectOf (decision.Algorithms layout selection) c s nonce (now (request .entry))) s (now (transcript .entry)) (now (transcript .exit)) (now (answer .entry)) (now (answer .exit)) o) ⌝ }
 {
@@ -169,13 +191,27 @@ fn appended_to_m(s: State, used: usize, awaited: u32, answer: usize) -> State
     }
 }
 
-pub fn accept_digests(image: &[u8], ix: Index, s: State, transcript: &mut [u8], answer: &mut [u8], request: &[u8]) -> Outcome
+pub fn accept_digests(
+    image: &[u8],
+    ix: Index,
+    s: State,
+    transcript: &mut [u8],
+    answer: &mut [u8],
+    request: &[u8],
+) -> Outcome
     requires { ⌜ (Known (now image) ix) × ((Within s) × ((messageLimit ≤ length (now answer)) × DigestsTold (factsAt (now image) ix) s (now request))) ⌝ }
     ensures { λ o. ⌜ ((c : Contents) (nonce : List ℕ) → ReadAs (now (image .entry)) ix c → Responded (effectOf decision.Digests c s nonce (now (request .entry))) s (now (transcript .entry)) (now (transcript .exit)) (now (answer .entry)) (now (answer .exit)) o) ⌝ }
 {
     super::digests::write_digests(answer, image, ix);
     let n = super::digests::digests_size(ix);
-    super::transcript::append(transcript, B_START + s.b as usize, request, HEADER_LENGTH, answer, n);
+    super::transcript::append(
+        transcript,
+        B_START + s.b as usize,
+        request,
+        HEADER_LENGTH,
+        answer,
+        n,
+    );
     let state = appended_to_b(s, HEADER_LENGTH + n, 0, 0);
     Outcome {
         reply: Reply::Answer(n),
@@ -183,13 +219,31 @@ pub fn accept_digests(image: &[u8], ix: Index, s: State, transcript: &mut [u8], 
     }
 }
 
-pub fn accept_certificate(image: &[u8], ix: Index, s: State, transcript: &mut [u8], answer: &mut [u8], request: &[u8], slot: SlotNumber, offset: usize, portion: usize, remainder: usize) -> Outcome
+pub fn accept_certificate(
+    image: &[u8],
+    ix: Index,
+    s: State,
+    transcript: &mut [u8],
+    answer: &mut [u8],
+    request: &[u8],
+    slot: SlotNumber,
+    offset: usize,
+    portion: usize,
+    remainder: usize,
+) -> Outcome
     requires { ⌜ (Known (now image) ix) × ((Within s) × ((messageLimit ≤ length (now answer)) × CertificateTold (factsAt (now image) ix) s (now request) (slot .0) offset portion remainder)) ⌝ }
     ensures { λ o. ⌜ ((c : Contents) (nonce : List ℕ) → ReadAs (now (image .entry)) ix c → Responded (effectOf (decision.Certificate slot offset portion remainder) c s nonce (now (request .entry))) s (now (transcript .entry)) (now (transcript .exit)) (now (answer .entry)) (now (answer .exit)) o) ⌝ }
 {
     super::certificate::write_certificate(answer, image, ix, slot, offset, portion, remainder);
     let n = CERTIFICATE_HEAD + portion;
-    super::transcript::append(transcript, B_START + s.b as usize, request, CERTIFICATE_LAYOUT, answer, n);
+    super::transcript::append(
+        transcript,
+        B_START + s.b as usize,
+        request,
+        CERTIFICATE_LAYOUT,
+        answer,
+        n,
+    );
     let state = appended_to_b(s, CERTIFICATE_LAYOUT + n, 0, 0);
     Outcome {
         reply: Reply::Answer(n),
@@ -197,14 +251,31 @@ pub fn accept_certificate(image: &[u8], ix: Index, s: State, transcript: &mut [u
     }
 }
 
-pub fn accept_challenge(image: &[u8], ix: Index, s: State, transcript: &mut [u8], answer: &mut [u8], request: &[u8], nonce: &[u8], slot: SlotNumber, x: u8) -> Outcome
+pub fn accept_challenge(
+    image: &[u8],
+    ix: Index,
+    s: State,
+    transcript: &mut [u8],
+    answer: &mut [u8],
+    request: &[u8],
+    nonce: &[u8],
+    slot: SlotNumber,
+    x: u8,
+) -> Outcome
     requires { ⌜ (Known (now image) ix) × ((Within s) × ((messageLimit ≤ length (now answer)) × ((length (now nonce) ≡ nonceLength) × ChallengeTold (factsAt (now image) ix) s (now request) (slot .0) x))) ⌝ }
     ensures { λ o. ⌜ ((c : Contents) → ReadAs (now (image .entry)) ix c → Responded (effectOf (decision.Challenge slot x) c s (now (nonce .entry)) (now (request .entry))) s (now (transcript .entry)) (now (transcript .exit)) (now (answer .entry)) (now (answer .exit)) o) ⌝ }
 {
     super::challenge::write_challenge(answer, image, ix, nonce, slot, x);
     let n = super::challenge::challenge_size(ix, x);
     let whole = n + image::signature_size(ix.signature);
-    super::transcript::append(transcript, B_START + s.b as usize, request, CHALLENGE_LAYOUT, answer, n);
+    super::transcript::append(
+        transcript,
+        B_START + s.b as usize,
+        request,
+        CHALLENGE_LAYOUT,
+        answer,
+        n,
+    );
     let state = appended_to_b(s, CHALLENGE_LAYOUT + n, AWAITS_CHALLENGE, whole);
     Outcome {
         reply: Reply::Answer(whole),
@@ -222,7 +293,17 @@ fn measured_state(s: State, used: usize, g: Signer, whole: usize) -> State
     }
 }
 
-pub fn accept_measurements(image: &[u8], ix: Index, s: State, transcript: &mut [u8], answer: &mut [u8], request: &[u8], nonce: &[u8], o: Operation, g: Signer) -> Outcome
+pub fn accept_measurements(
+    image: &[u8],
+    ix: Index,
+    s: State,
+    transcript: &mut [u8],
+    answer: &mut [u8],
+    request: &[u8],
+    nonce: &[u8],
+    o: Operation,
+    g: Signer,
+) -> Outcome
     requires { ⌜ (Known (now image) ix) × ((Within s) × ((messageLimit ≤ length (now answer)) × ((length (now nonce) ≡ nonceLength) × MeasurementsTold (factsAt (now image) ix) s (now request) o g))) ⌝ }
     ensures { λ r. ⌜ ((c : Contents) → ReadAs (now (image .entry)) ix c → Responded (effectOf (decision.Measurements o g) c s (now (nonce .entry)) (now (request .entry))) s (now (transcript .entry)) (now (transcript .exit)) (now (answer .entry)) (now (answer .exit)) r) ⌝ }
 {
@@ -230,7 +311,14 @@ pub fn accept_measurements(image: &[u8], ix: Index, s: State, transcript: &mut [
     let n = super::measurements::measurements_size(ix, o);
     let whole = n + super::measurements::signature_of(ix, g);
     let layout = super::measurements::layout_of(g);
-    super::transcript::append(transcript, M_START + s.m as usize, request, layout, answer, n);
+    super::transcript::append(
+        transcript,
+        M_START + s.m as usize,
+        request,
+        layout,
+        answer,
+        n,
+    );
     let state = measured_state(s, layout + n, g, whole);
     Outcome {
         reply: Reply::Answer(whole),

@@ -1,7 +1,15 @@
 // State bounds: number 14.
+use super::limits::A_LIMIT;
+use super::limits::AWAITS_MEASUREMENTS;
+use super::limits::B_LIMIT;
+use super::limits::CAPABILITIES_USED;
+use super::limits::M_LIMIT;
+use super::limits::MESSAGE_LIMIT;
+use super::limits::PEER_LEAST;
+use super::limits::PHASE_LIMIT;
+use super::limits::VERSION_USED;
 use image::Index;
 use model::State;
-use super::limits::{A_LIMIT, AWAITS_MEASUREMENTS, B_LIMIT, CAPABILITIES_USED, M_LIMIT, MESSAGE_LIMIT, PEER_LEAST, PHASE_LIMIT, VERSION_USED};
 ghost use mathlib.Core.Path.{_≡_};
 ghost use mathlib.Core.List.{List};
 ghost use Prim.Native.Nat.{ℕ};

@@ -1,7 +1,9 @@
 // GET_CAPABILITIES and CAPABILITIES.
+use super::limits::CAPABILITIES_LAYOUT;
+use super::limits::PEER_LEAST;
+use super::limits::VERSION_12;
 use image::Index;
 use model::Decision;
-use super::limits::{CAPABILITIES_LAYOUT, PEER_LEAST, VERSION_12};
 ghost use mathlib.Core.Path.{_≡_};
 ghost use mathlib.Core.List.{List};
 ghost use Prim.Native.Nat.{ℕ};
@@ -40,7 +42,26 @@ pub fn write_capabilities(answer: &mut [u8], ix: Index)
     let exponent = ix.exponent;
     let bits = flags(ix);
     let m = [
-        VERSION_12, 0x61, 0, 0, 0, exponent, 0, 0, bits, 0, 0, 0, 0x00, 0x12, 0, 0, 0x00, 0x12, 0, 0,
+        VERSION_12,
+        0x61,
+        0,
+        0,
+        0,
+        exponent,
+        0,
+        0,
+        bits,
+        0,
+        0,
+        0,
+        0x00,
+        0x12,
+        0,
+        0,
+        0x00,
+        0x12,
+        0,
+        0,
     ];
     wire::copy_into(answer, 0, &m);
 }

@@ -1,7 +1,14 @@
 // GET_CERTIFICATE and CERTIFICATE.
-use image::{Index, SlotCheck, SlotNumber};
-use model::{Decision, State};
-use super::limits::{B_LIMIT, CERTIFICATE_HEAD, CERTIFICATE_LAYOUT, PORTION_LIMIT, VERSION_12};
+use super::limits::B_LIMIT;
+use super::limits::CERTIFICATE_HEAD;
+use super::limits::CERTIFICATE_LAYOUT;
+use super::limits::PORTION_LIMIT;
+use super::limits::VERSION_12;
+use image::Index;
+use image::SlotCheck;
+use image::SlotNumber;
+use model::Decision;
+use model::State;
 ghost use mathlib.Core.Path.{_≡_};
 ghost use Prim.Native.Nat.{_≤_, _<_, min};
 ghost use Rattle.wire.specs.Bytes.{splice};
@@ -23,10 +30,19 @@ fn portion_of(asked: usize, left: usize, peer: u32) -> usize
     if size < CERTIFICATE_HEAD {
         return 0;
     }
-    least(least(asked, left), least(size - CERTIFICATE_HEAD, PORTION_LIMIT))
+    least(
+        least(asked, left),
+        least(size - CERTIFICATE_HEAD, PORTION_LIMIT),
+    )
 }
 
-fn decide_portion(s: State, slot: SlotNumber, offset: usize, left: usize, portion: usize) -> Decision
+fn decide_portion(
+    s: State,
+    slot: SlotNumber,
+    offset: usize,
+    left: usize,
+    portion: usize,
+) -> Decision
     requires { ⌜ (Within s) × (portion ≤ left) × (left < 65536) ⌝ }
     ensures { λ d. ⌜ d ≡ portionDecision s (slot .0) offset left portion ⌝ }
 {
@@ -72,7 +88,15 @@ pub fn decide_certificate(image: &[u8], ix: Index, s: State, r: &[u8]) -> Decisi
     decide_portion(s, slot, offset, left, portion_of(asked, left, s.peer))
 }
 
-pub fn write_certificate(answer: &mut [u8], image: &[u8], ix: Index, slot: SlotNumber, offset: usize, portion: usize, remainder: usize)
+pub fn write_certificate(
+    answer: &mut [u8],
+    image: &[u8],
+    ix: Index,
+    slot: SlotNumber,
+    offset: usize,
+    portion: usize,
+    remainder: usize,
+)
     requires { ⌜ (portion < 65536) × (remainder < 65536) ⌝ }
     ensures { λ _. ⌜ ((c : Contents) → ReadAs (now (image .entry)) ix c → now (answer .exit) ≡ splice (now (answer .entry)) 0 (certificateBytes c (slot .0) offset portion remainder)) ⌝ }
 {
@@ -88,5 +112,9 @@ pub fn write_certificate(answer: &mut [u8], image: &[u8], ix: Index, slot: SlotN
         (remainder / 256 % 256) as u8,
     ];
     wire::copy_into(answer, 0, &head);
-    wire::copy_into(answer, CERTIFICATE_HEAD, image::lookup::chain_part(image, ix, slot, offset, portion));
+    wire::copy_into(
+        answer,
+        CERTIFICATE_HEAD,
+        image::lookup::chain_part(image, ix, slot, offset, portion),
+    );
 }

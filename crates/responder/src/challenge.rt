@@ -1,7 +1,14 @@
 // CHALLENGE and CHALLENGE_AUTH.
-use image::{Index, SlotCheck, SlotNumber};
-use model::{Decision, State};
-use super::limits::{B_LIMIT, CHALLENGE_LAYOUT, HEADER_LENGTH, NONCE_LENGTH, VERSION_12};
+use super::limits::B_LIMIT;
+use super::limits::CHALLENGE_LAYOUT;
+use super::limits::HEADER_LENGTH;
+use super::limits::NONCE_LENGTH;
+use super::limits::VERSION_12;
+use image::Index;
+use image::SlotCheck;
+use image::SlotNumber;
+use model::Decision;
+use model::State;
 ghost use mathlib.Core.Path.{_≡_};
 ghost use mathlib.Core.List.{List, _++_};
 ghost use Prim.Native.Nat.{ℕ, _+_, _≤_, _<_};
@@ -86,7 +93,14 @@ fn summary_asked(image: &[u8], ix: Index, x: u8) -> &[u8]
 }
 
 // CHALLENGE_AUTH, with zeros for its signature.
-pub fn write_challenge(answer: &mut [u8], image: &[u8], ix: Index, nonce: &[u8], slot: SlotNumber, x: u8)
+pub fn write_challenge(
+    answer: &mut [u8],
+    image: &[u8],
+    ix: Index,
+    nonce: &[u8],
+    slot: SlotNumber,
+    x: u8,
+)
     requires { ⌜ (Fine ix) × (length (now nonce) ≡ nonceLength) ⌝ }
     ensures { λ _. ⌜ ((c : Contents) → ReadAs (now (image .entry)) ix c → now (answer .exit) ≡ splice (now (answer .entry)) 0 (challengeBytes c (now (nonce .entry)) (slot .0) x ++ replicate (signatureSize (c .signature)) 0)) ⌝ }
 {
@@ -100,5 +114,9 @@ pub fn write_challenge(answer: &mut [u8], image: &[u8], ix: Index, nonce: &[u8],
     wire::copy_into(answer, at, nonce);
     let summary = summary_asked(image, ix, x);
     wire::copy_into(answer, at + NONCE_LENGTH, summary);
-    super::zeros::write_zeros(answer, at + NONCE_LENGTH + summary.len(), 2 + image::signature_size(ix.signature));
+    super::zeros::write_zeros(
+        answer,
+        at + NONCE_LENGTH + summary.len(),
+        2 + image::signature_size(ix.signature),
+    );
 }

@@ -1,6 +1,8 @@
 // What a request comes to, before any byte is written.
 use image::Index;
-use model::{Decision, Kind, State};
+use model::Decision;
+use model::Kind;
+use model::State;
 ghost use mathlib.Core.Path.{_≡_};
 ghost use Prim.Native.Nat.{_≤_};
 ghost use lib.ListN.{length};
@@ -9,7 +11,20 @@ ghost use Rattle.model.specs.Facts.{factsAt};
 ghost use Rattle.model.specs.Steps.{kindSteps};
 ghost use Rattle.model.specs.Decisions.{lastSteps, requestDecision, decisionOf};
 ghost use Rattle.responder.specs.Read.{Fine, Within};
-use super::limits::{BUSY, HEADER_LENGTH, INVALID_REQUEST, MESSAGE_LIMIT, NONCE_LENGTH, REQUEST_TOO_LARGE, SHORT_ANSWER, SHORT_TRANSCRIPT, TRANSCRIPT_LENGTH, UNEXPECTED_REQUEST, UNSUPPORTED_REQUEST, VERSION_MISMATCH, WRONG_NONCE, WRONG_STATE};
+use super::limits::BUSY;
+use super::limits::HEADER_LENGTH;
+use super::limits::INVALID_REQUEST;
+use super::limits::MESSAGE_LIMIT;
+use super::limits::NONCE_LENGTH;
+use super::limits::REQUEST_TOO_LARGE;
+use super::limits::SHORT_ANSWER;
+use super::limits::SHORT_TRANSCRIPT;
+use super::limits::TRANSCRIPT_LENGTH;
+use super::limits::UNEXPECTED_REQUEST;
+use super::limits::UNSUPPORTED_REQUEST;
+use super::limits::VERSION_MISMATCH;
+use super::limits::WRONG_NONCE;
+use super::limits::WRONG_STATE;
 
 // Steps 7 to 9, by the kind of request.
 fn last_steps(image: &[u8], ix: Index, s: State, r: &[u8], k: Kind) -> Decision
@@ -64,7 +79,15 @@ fn decide_request(image: &[u8], ix: Index, s: State, r: &[u8]) -> Decision
 }
 
 // The numbers 11 to 14 for the host, then the steps of a request.
-pub fn decide(image: &[u8], ix: Index, s: State, answer: usize, lent: usize, nonce: usize, r: &[u8]) -> Decision
+pub fn decide(
+    image: &[u8],
+    ix: Index,
+    s: State,
+    answer: usize,
+    lent: usize,
+    nonce: usize,
+    r: &[u8],
+) -> Decision
     requires { ⌜ Fine ix ⌝ }
     ensures { λ d. ⌜ d ≡ decisionOf (factsAt (now (image .entry)) ix) s answer lent nonce (now (r .entry)) ⌝ }
 {

@@ -1,7 +1,11 @@
 // GET_DIGESTS and DIGESTS.
-use image::{Index, SlotCheck};
-use model::{Decision, State};
-use super::limits::{B_LIMIT, HEADER_LENGTH, VERSION_12};
+use super::limits::B_LIMIT;
+use super::limits::HEADER_LENGTH;
+use super::limits::VERSION_12;
+use image::Index;
+use image::SlotCheck;
+use model::Decision;
+use model::State;
 ghost use mathlib.Core.Path.{_≡_};
 ghost use mathlib.Core.List.{List};
 ghost use Prim.Native.Nat.{ℕ, _+_, _≤_};
@@ -26,7 +30,13 @@ pub fn decide_digests(ix: Index, s: State) -> Decision
     ensures { λ d. ⌜ ((b : List ℕ) → d ≡ digestsDecision (factsAt b ix) s) ⌝ }
 {
     let size = digests_size(ix);
-    super::steps::size_steps(s, size, s.b as usize + (HEADER_LENGTH + size), B_LIMIT, Decision::Digests)
+    super::steps::size_steps(
+        s,
+        size,
+        s.b as usize + (HEADER_LENGTH + size),
+        B_LIMIT,
+        Decision::Digests,
+    )
 }
 
 // The digest of a slot behind what stands there, none where the slot is not filled; the place behind it.

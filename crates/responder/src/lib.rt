@@ -51,11 +51,27 @@ pub fn fresh() -> State
 }
 
 // A request on an image that was accepted: decided first, then carried out.
-fn answer_request(image: &[u8], ix: Index, s: State, transcript: &mut [u8], answer: &mut [u8], request: &[u8], nonce: &[u8]) -> Outcome
+fn answer_request(
+    image: &[u8],
+    ix: Index,
+    s: State,
+    transcript: &mut [u8],
+    answer: &mut [u8],
+    request: &[u8],
+    nonce: &[u8],
+) -> Outcome
     requires { ⌜ Known (now image) ix ⌝ }
     ensures { λ o. ⌜ ((c : Contents) → ReadAs (now (image .entry)) ix c → Responded (effectOf (decisionOf (factsOf c) s (length (now (answer .entry))) (length (now (transcript .entry))) (length (now (nonce .entry))) (now (request .entry))) c s (now (nonce .entry)) (now (request .entry))) s (now (transcript .entry)) (now (transcript .exit)) (now (answer .entry)) (now (answer .exit)) o) ⌝ }
 {
-    let d = decide::decide(image, ix, s, answer.len(), transcript.len(), nonce.len(), request);
+    let d = decide::decide(
+        image,
+        ix,
+        s,
+        answer.len(),
+        transcript.len(),
+        nonce.len(),
+        request,
+    );
     match d {
         Decision::Number(number) => Outcome {
             reply: Reply::Number(number),
@@ -64,17 +80,75 @@ fn answer_request(image: &[u8], ix: Index, s: State, transcript: &mut [u8], answ
         Decision::Error { code, extra } => answer::refuse(s, answer, code, extra),
         Decision::TooLarge { size } => answer::refuse_large(s, answer, size),
         Decision::Version => answer::accept_version(transcript, answer, request),
-        Decision::Capabilities { peer } => answer::accept_capabilities(ix, s, transcript, answer, request, peer),
-        Decision::Algorithms { length, selection } => answer::accept_algorithms(ix, s, transcript, answer, request, length, selection),
+        Decision::Capabilities { peer } => answer::accept_capabilities(
+            ix,
+            s,
+            transcript,
+            answer,
+            request,
+            peer,
+        ),
+        Decision::Algorithms { length, selection } => answer::accept_algorithms(
+            ix,
+            s,
+            transcript,
+            answer,
+            request,
+            length,
+            selection,
+        ),
         Decision::Digests => answer::accept_digests(image, ix, s, transcript, answer, request),
-        Decision::Certificate { slot, offset, portion, remainder } => answer::accept_certificate(image, ix, s, transcript, answer, request, slot, offset, portion, remainder),
-        Decision::Challenge { slot, summary } => answer::accept_challenge(image, ix, s, transcript, answer, request, nonce, slot, summary),
-        Decision::Measurements { operation, signer } => answer::accept_measurements(image, ix, s, transcript, answer, request, nonce, operation, signer),
+        Decision::Certificate {
+            slot,
+            offset,
+            portion,
+            remainder,
+        } => answer::accept_certificate(
+            image,
+            ix,
+            s,
+            transcript,
+            answer,
+            request,
+            slot,
+            offset,
+            portion,
+            remainder,
+        ),
+        Decision::Challenge { slot, summary } => answer::accept_challenge(
+            image,
+            ix,
+            s,
+            transcript,
+            answer,
+            request,
+            nonce,
+            slot,
+            summary,
+        ),
+        Decision::Measurements { operation, signer } => answer::accept_measurements(
+            image,
+            ix,
+            s,
+            transcript,
+            answer,
+            request,
+            nonce,
+            operation,
+            signer,
+        ),
     }
 }
 
 // Answers one request: writes the answer, appends the exchange to the transcript, and gives the next state.
-pub fn respond(image: &[u8], s: State, transcript: &mut [u8], answer: &mut [u8], request: &[u8], nonce: &[u8]) -> Outcome
+pub fn respond(
+    image: &[u8],
+    s: State,
+    transcript: &mut [u8],
+    answer: &mut [u8],
+    request: &[u8],
+    nonce: &[u8],
+) -> Outcome
     ensures { λ o. ⌜ Responded (effectBy (reading (now (image .entry))) s (length (now (answer .entry))) (length (now (transcript .entry))) (now (request .entry)) (now (nonce .entry))) s (now (transcript .entry)) (now (transcript .exit)) (now (answer .entry)) (now (answer .exit)) o ⌝ }
 {
     let read = image::read_image(image);

@@ -1,7 +1,16 @@
 // GET_MEASUREMENTS and MEASUREMENTS.
-use image::{Index, IndexCheck, SlotCheck};
-use model::{Decision, Operation, Signer, State};
-use super::limits::{HEADER_LENGTH, M_LIMIT, NONCE_LENGTH, SIGNED_LAYOUT, VERSION_12};
+use super::limits::HEADER_LENGTH;
+use super::limits::M_LIMIT;
+use super::limits::NONCE_LENGTH;
+use super::limits::SIGNED_LAYOUT;
+use super::limits::VERSION_12;
+use image::Index;
+use image::IndexCheck;
+use image::SlotCheck;
+use model::Decision;
+use model::Operation;
+use model::Signer;
+use model::State;
 ghost use mathlib.Core.Path.{_≡_};
 ghost use mathlib.Core.List.{List, _++_};
 ghost use Prim.Native.Nat.{ℕ, _+_, _≤_, _<_};
@@ -49,7 +58,11 @@ pub fn measurements_size(ix: Index, o: Operation) -> usize
     requires { ⌜ Fine ix ⌝ }
     ensures { λ r. ⌜ ((b : List ℕ) → r ≡ measurementsSize (factsAt b ix) o) ⌝ }
 {
-    HEADER_LENGTH + 4 + wire::wide(block_count(ix, o)) * (7 + image::digest_size(ix.hash)) + NONCE_LENGTH + 2
+    HEADER_LENGTH
+        + 4
+        + wire::wide(block_count(ix, o)) * (7 + image::digest_size(ix.hash))
+        + NONCE_LENGTH
+        + 2
 }
 
 fn decide_size(ix: Index, s: State, o: Operation, g: Signer) -> Decision
@@ -136,7 +149,12 @@ fn write_all_blocks(answer: &mut [u8], at: usize, image: &[u8], ix: Index)
     let count = wire::wide(ix.measurements);
     let mut k: usize = 0;
     while k < count {
-        write_block(answer, at + k * (7 + h), h, image::lookup::nth_measurement(image, ix, k));
+        write_block(
+            answer,
+            at + k * (7 + h),
+            h,
+            image::lookup::nth_measurement(image, ix, k),
+        );
         k = k + 1;
     }
 }
@@ -148,7 +166,12 @@ fn write_record(answer: &mut [u8], at: usize, image: &[u8], ix: Index, o: Operat
     match o {
         Operation::Count => {}
         Operation::All => write_all_blocks(answer, at, image, ix),
-        Operation::One(i) => write_block(answer, at, image::digest_size(ix.hash), image::lookup::measurement(image, ix, i)),
+        Operation::One(i) => write_block(
+            answer,
+            at,
+            image::digest_size(ix.hash),
+            image::lookup::measurement(image, ix, i),
+        ),
     }
 }
 
@@ -172,7 +195,14 @@ fn slot_shown(g: Signer) -> u8
 }
 
 // MEASUREMENTS, with zeros for its signature.
-pub fn write_measurements(answer: &mut [u8], image: &[u8], ix: Index, nonce: &[u8], o: Operation, g: Signer)
+pub fn write_measurements(
+    answer: &mut [u8],
+    image: &[u8],
+    ix: Index,
+    nonce: &[u8],
+    o: Operation,
+    g: Signer,
+)
     requires { ⌜ (Known (now image) ix) × ((length (now nonce) ≡ nonceLength) × (operationFits (factsAt (now image) ix) o ≡ true)) ⌝ }
     ensures { λ _. ⌜ ((c : Contents) → ReadAs (now (image .entry)) ix c → now (answer .exit) ≡ splice (now (answer .entry)) 0 (measurementsBytes c (now (nonce .entry)) o g ++ replicate (signatureOf (factsOf c) g) 0)) ⌝ }
 {

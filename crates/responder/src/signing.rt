@@ -1,10 +1,4 @@
 // What gets signed, and finishing.
-use image::Index;
-use image::Verdict;
-use model::Finish;
-use model::Outcome;
-use model::Reply;
-use model::State;
 use super::limits::AWAITS_CHALLENGE;
 use super::limits::AWAITS_MEASUREMENTS;
 use super::limits::B_START;
@@ -16,6 +10,12 @@ use super::limits::SHORT_TRANSCRIPT;
 use super::limits::TRANSCRIPT_LENGTH;
 use super::limits::WRONG_SIGNATURE;
 use super::limits::WRONG_STATE;
+use image::Index;
+use image::Verdict;
+use model::Finish;
+use model::Outcome;
+use model::Reply;
+use model::State;
 ghost use mathlib.Core.Path.{_≡_};
 ghost use mathlib.Core.List.{List, _++_};
 ghost use Prim.Native.Nat.{ℕ, _≤_};
@@ -37,7 +37,11 @@ pub fn write_prefix(awaited: u32, out: &mut [u8])
     }
     if awaited == AWAITS_MEASUREMENTS {
         write_texts(out);
-        wire::copy_into(out, 64, b"\x00\x00\x00\x00\x00\x00responder-measurements signing");
+        wire::copy_into(
+            out,
+            64,
+            b"\x00\x00\x00\x00\x00\x00responder-measurements signing",
+        );
     }
 }
 
@@ -45,7 +49,11 @@ pub fn write_prefix(awaited: u32, out: &mut [u8])
 fn write_texts(out: &mut [u8])
     ensures { λ _. ⌜ now (out .exit) ≡ splice (now (out .entry)) 0 (spdmText ++ spdmText ++ spdmText ++ spdmText) ⌝ }
 {
-    wire::copy_into(out, 0, b"dmtf-spdm-v1.2.*dmtf-spdm-v1.2.*dmtf-spdm-v1.2.*dmtf-spdm-v1.2.*");
+    wire::copy_into(
+        out,
+        0,
+        b"dmtf-spdm-v1.2.*dmtf-spdm-v1.2.*dmtf-spdm-v1.2.*dmtf-spdm-v1.2.*",
+    );
 }
 
 // The first part of the transcript to hash: A, as a part of the lent buffer.
@@ -113,7 +121,14 @@ fn emptied(s: State) -> State
     next
 }
 
-fn finish_answer(ix: Index, s: State, lent: usize, answer: &mut [u8], ok: bool, signature: &[u8]) -> Outcome
+fn finish_answer(
+    ix: Index,
+    s: State,
+    lent: usize,
+    answer: &mut [u8],
+    ok: bool,
+    signature: &[u8],
+) -> Outcome
     ensures { λ o. ⌜ ((b : List ℕ) → Finished (finishOf (factsAt b ix) s (length (now (answer .entry))) lent ok (length (now (signature .entry)))) s (now (answer .entry)) (now (answer .exit)) (now (signature .entry)) o) ⌝ }
 {
     let d = decide_finish(ix, s, answer.len(), lent, ok, signature.len());
@@ -141,7 +156,14 @@ fn finish_answer(ix: Index, s: State, lent: usize, answer: &mut [u8], ok: bool, 
 }
 
 // Finishes the awaited answer with the chip's signature, or with an ERROR where the chip failed.
-pub fn finish(image: &[u8], s: State, transcript: &[u8], answer: &mut [u8], ok: bool, signature: &[u8]) -> Outcome
+pub fn finish(
+    image: &[u8],
+    s: State,
+    transcript: &[u8],
+    answer: &mut [u8],
+    ok: bool,
+    signature: &[u8],
+) -> Outcome
     ensures { λ o. ⌜ Finished (finishBy (reading (now (image .entry))) s (length (now (answer .entry))) (length (now (transcript .entry))) ok (length (now (signature .entry)))) s (now (answer .entry)) (now (answer .exit)) (now (signature .entry)) o ⌝ }
 {
     let read = image::read_image(image);

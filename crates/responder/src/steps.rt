@@ -1,7 +1,12 @@
 // The steps that every request passes, and those on an answer's size.
+use super::limits::INVALID_REQUEST;
+use super::limits::UNSPECIFIED;
+use super::limits::VERSION_10;
+use super::limits::VERSION_12;
 use image::Index;
-use model::{Decision, Kind, State};
-use super::limits::{INVALID_REQUEST, UNSPECIFIED, VERSION_10, VERSION_12};
+use model::Decision;
+use model::Kind;
+use model::State;
 ghost use mathlib.Core.Path.{_≡_};
 ghost use mathlib.Core.List.{List};
 ghost use mathlib.Core.Bool.{false};

@@ -40,7 +40,7 @@ settled c k rd d e u after o v =
     let a = c .before .before .before .before .before .before .args in
     let f = facts {b = a .image .now} (λ i. c .before .before .before .before .before .shared-slice-known .given i .fits) rd in
     let q : d ≡ decisionOf (factsOf k) (a .s) (length (a .answer .now)) (length (a .transcript .now)) (length (a .nonce .now)) (a .request .now) =
-          sym e ∙ c .decide .ensures ∙ ap (λ (g : Facts). decisionOf g (a .s) (length (a .answer .now)) (length (a .transcript .now)) (length (a .nonce .now)) (a .request .now)) f in
+    sym e ∙ c .decide .ensures ∙ ap (λ (g : Facts). decisionOf g (a .s) (length (a .answer .now)) (length (a .transcript .now)) (length (a .nonce .now)) (a .request .now)) f in
     subst (λ (x : Decision). Responded (effectOf x k (a .s) (a .nonce .now) (a .request .now)) (a .s) (a .transcript .now) u (a .answer .now) after o) q v
 
 decide-requires : tie.Need-decide-requires

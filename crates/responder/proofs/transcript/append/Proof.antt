@@ -31,7 +31,7 @@ returns c =
     let p = c .before .before .before .before .before .before .before .before .before .before .before .before .before .pre in
     c .before .before .copy-into2 .ensures
     ∙ rw (c .before .before .before .before .before .before .before .copy-into .ensures, c .before .before .before .part-of2 .ensures, c .before .before .before .before .before .before .before .before .part-of .ensures)
-      (splice-then (a .t .now) (a .at) (take (a .layout) (a .request .now)) (take (a .n) (a .answer .now)) (a .layout) (length-take-le (a .layout) (a .request .now) (p .0)))
+    (splice-then (a .t .now) (a .at) (take (a .layout) (a .request .now)) (take (a .n) (a .answer .now)) (a .layout) (length-take-le (a .layout) (a .request .now) (p .0)))
 
 pub append-spec : {M : Type 1} → statement M
 append-spec =
