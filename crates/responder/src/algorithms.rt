@@ -76,7 +76,7 @@ fn selection_for(ix: Index, r: &[u8]) -> u32
     (wire::byte_at(r, 6) % 2) as u32
 }
 
-pub fn decide_algorithms(ix: Index, r: &[u8]) -> Decision
+pub(crate) fn decide_algorithms(ix: Index, r: &[u8]) -> Decision
     requires { ⌜ Fine ix ⌝ }
     ensures { λ d. ⌜ ((b : List ℕ) → d ≡ algorithmsDecision (factsAt b ix) (now (r .entry))) ⌝ }
 {
@@ -109,7 +109,7 @@ pub fn decide_algorithms(ix: Index, r: &[u8]) -> Decision
     }
 }
 
-pub fn write_algorithms(answer: &mut [u8], ix: Index, selection: u32)
+pub(crate) fn write_algorithms(answer: &mut [u8], ix: Index, selection: u32)
     requires { ⌜ (Fine ix) × (selection ≤ 1) ⌝ }
     ensures { λ _. ⌜ ((c : Contents) → ix ≡ indexOf c → now (answer .exit) ≡ splice (now (answer .entry)) 0 (algorithmsBytes c selection)) ⌝ }
 {

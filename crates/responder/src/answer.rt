@@ -37,7 +37,7 @@ fn error_version(s: State) -> u8
     if s.phase < 2 { VERSION_10 } else { VERSION_12 }
 }
 
-pub fn refuse(s: State, answer: &mut [u8], code: u8, extra: u8) -> Outcome
+pub(crate) fn refuse(s: State, answer: &mut [u8], code: u8, extra: u8) -> Outcome
     ensures { λ o. ⌜ ((c : Contents) (t nonce r : List ℕ) → Responded (effectOf (decision.Error code extra) c s nonce r) s t t (now (answer .entry)) (now (answer .exit)) o) ⌝ }
 {
     let version = error_version(s);
@@ -50,7 +50,7 @@ pub fn refuse(s: State, answer: &mut [u8], code: u8, extra: u8) -> Outcome
 }
 
 // The ERROR that says how large the answer would be.
-pub fn refuse_large(s: State, answer: &mut [u8], size: usize) -> Outcome
+pub(crate) fn refuse_large(s: State, answer: &mut [u8], size: usize) -> Outcome
     ensures { λ o. ⌜ ((c : Contents) (t nonce r : List ℕ) → Responded (effectOf (decision.TooLarge size) c s nonce r) s t t (now (answer .entry)) (now (answer .exit)) o) ⌝ }
 {
     let version = error_version(s);
@@ -71,7 +71,7 @@ pub fn refuse_large(s: State, answer: &mut [u8], size: usize) -> Outcome
     }
 }
 
-pub fn accept_version(transcript: &mut [u8], answer: &mut [u8], request: &[u8]) -> Outcome
+pub(crate) fn accept_version(transcript: &mut [u8], answer: &mut [u8], request: &[u8]) -> Outcome
     requires { ⌜ (messageLimit ≤ length (now answer)) × (headerLength ≤ length (now request)) ⌝ }
     ensures { λ o. ⌜ ((c : Contents) (s : State) (nonce : List ℕ) → Responded (effectOf decision.Version c s nonce (now (request .entry))) s (now (transcript .entry)) (now (transcript .exit)) (now (answer .entry)) (now (answer .exit)) o) ⌝ }
 {
@@ -109,7 +109,7 @@ fn appended_to_a(s: State, phase: u32, peer: u32, selection: u32, used: usize) -
     }
 }
 
-pub fn accept_capabilities(
+pub(crate) fn accept_capabilities(
     ix: Index,
     s: State,
     transcript: &mut [u8],
@@ -136,7 +136,7 @@ pub fn accept_capabilities(
     }
 }
 
-pub fn accept_algorithms(
+pub(crate) fn accept_algorithms(
     ix: Index,
     s: State,
     transcript: &mut [u8],
@@ -191,7 +191,7 @@ fn appended_to_m(s: State, used: usize, awaited: u32, answer: usize) -> State
     }
 }
 
-pub fn accept_digests(
+pub(crate) fn accept_digests(
     image: &[u8],
     ix: Index,
     s: State,
@@ -219,7 +219,7 @@ pub fn accept_digests(
     }
 }
 
-pub fn accept_certificate(
+pub(crate) fn accept_certificate(
     image: &[u8],
     ix: Index,
     s: State,
@@ -251,7 +251,7 @@ pub fn accept_certificate(
     }
 }
 
-pub fn accept_challenge(
+pub(crate) fn accept_challenge(
     image: &[u8],
     ix: Index,
     s: State,
@@ -293,7 +293,7 @@ fn measured_state(s: State, used: usize, g: Signer, whole: usize) -> State
     }
 }
 
-pub fn accept_measurements(
+pub(crate) fn accept_measurements(
     image: &[u8],
     ix: Index,
     s: State,

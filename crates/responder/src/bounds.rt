@@ -81,7 +81,7 @@ fn awaited_fits(ix: Index, s: State) -> bool
 }
 
 // Whether a state that the host hands in lies within its bounds, for the image that is lent with it.
-pub fn in_bounds(ix: Index, s: State) -> bool
+pub(crate) fn in_bounds(ix: Index, s: State) -> bool
     ensures { λ r. ⌜ ((b : List ℕ) → r ≡ inBounds (factsAt b ix) s) ⌝ }
 {
     if PHASE_LIMIT < s.phase {

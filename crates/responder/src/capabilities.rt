@@ -14,7 +14,7 @@ ghost use Rattle.image.specs.Contents.{Contents};
 ghost use Rattle.image.specs.Index.{indexOf};
 ghost use Rattle.model.specs.Capabilities.{capabilitiesDecision, capabilitiesBytes};
 
-pub fn decide_capabilities(r: &[u8]) -> Decision
+pub(crate) fn decide_capabilities(r: &[u8]) -> Decision
     ensures { λ d. ⌜ d ≡ capabilitiesDecision (now (r .entry)) ⌝ }
 {
     if r.len() < CAPABILITIES_LAYOUT {
@@ -36,7 +36,7 @@ fn flags(ix: Index) -> u8
     if ix.measurements == 0 { 0x06 } else { 0x16 }
 }
 
-pub fn write_capabilities(answer: &mut [u8], ix: Index)
+pub(crate) fn write_capabilities(answer: &mut [u8], ix: Index)
     ensures { λ _. ⌜ ((c : Contents) → ix ≡ indexOf c → now (answer .exit) ≡ splice (now (answer .entry)) 0 (capabilitiesBytes c)) ⌝ }
 {
     let exponent = ix.exponent;

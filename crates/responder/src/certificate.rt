@@ -61,7 +61,7 @@ fn decide_portion(
     )
 }
 
-pub fn decide_certificate(image: &[u8], ix: Index, s: State, r: &[u8]) -> Decision
+pub(crate) fn decide_certificate(image: &[u8], ix: Index, s: State, r: &[u8]) -> Decision
     requires { ⌜ Within s ⌝ }
     ensures { λ d. ⌜ d ≡ certificateDecision (factsAt (now (image .entry)) ix) s (now (r .entry)) ⌝ }
 {
@@ -88,7 +88,7 @@ pub fn decide_certificate(image: &[u8], ix: Index, s: State, r: &[u8]) -> Decisi
     decide_portion(s, slot, offset, left, portion_of(asked, left, s.peer))
 }
 
-pub fn write_certificate(
+pub(crate) fn write_certificate(
     answer: &mut [u8],
     image: &[u8],
     ix: Index,

@@ -41,7 +41,7 @@ fn summary_fits(s: State, x: u8) -> bool
 }
 
 // CHALLENGE_AUTH without its signature.
-pub fn challenge_size(ix: Index, x: u8) -> usize
+pub(crate) fn challenge_size(ix: Index, x: u8) -> usize
     ensures { λ n. ⌜ ((b : List ℕ) → n ≡ challengeSize (factsAt b ix) x) ⌝ }
 {
     let h = image::digest_size(ix.hash);
@@ -51,7 +51,7 @@ pub fn challenge_size(ix: Index, x: u8) -> usize
     HEADER_LENGTH + h + NONCE_LENGTH + h + 2
 }
 
-pub fn decide_challenge(image: &[u8], ix: Index, s: State, r: &[u8]) -> Decision
+pub(crate) fn decide_challenge(image: &[u8], ix: Index, s: State, r: &[u8]) -> Decision
     requires { ⌜ Within s ⌝ }
     ensures { λ d. ⌜ d ≡ challengeDecision (factsAt (now (image .entry)) ix) s (now (r .entry)) ⌝ }
 {
@@ -93,7 +93,7 @@ fn summary_asked(image: &[u8], ix: Index, x: u8) -> &[u8]
 }
 
 // CHALLENGE_AUTH, with zeros for its signature.
-pub fn write_challenge(
+pub(crate) fn write_challenge(
     answer: &mut [u8],
     image: &[u8],
     ix: Index,

@@ -79,7 +79,7 @@ fn decide_request(image: &[u8], ix: Index, s: State, r: &[u8]) -> Decision
 }
 
 // The numbers 11 to 14 for the host, then the steps of a request.
-pub fn decide(
+pub(crate) fn decide(
     image: &[u8],
     ix: Index,
     s: State,

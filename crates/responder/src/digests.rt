@@ -18,14 +18,14 @@ ghost use Rattle.model.specs.Limits.{messageLimit};
 ghost use Rattle.model.specs.Digests.{digestsSize, digestsDecision, digestsBytes};
 ghost use Rattle.responder.specs.Read.{ReadAs, Fine, Within};
 
-pub fn digests_size(ix: Index) -> usize
+pub(crate) fn digests_size(ix: Index) -> usize
     requires { ⌜ Fine ix ⌝ }
     ensures { λ n. ⌜ ((b : List ℕ) → n ≡ digestsSize (factsAt b ix)) ⌝ }
 {
     HEADER_LENGTH + wire::wide(ix.chains) * image::digest_size(ix.hash)
 }
 
-pub fn decide_digests(ix: Index, s: State) -> Decision
+pub(crate) fn decide_digests(ix: Index, s: State) -> Decision
     requires { ⌜ (Fine ix) × (Within s) ⌝ }
     ensures { λ d. ⌜ ((b : List ℕ) → d ≡ digestsDecision (factsAt b ix) s) ⌝ }
 {
@@ -53,7 +53,7 @@ fn write_digest(answer: &mut [u8], at: usize, image: &[u8], ix: Index, slot: u8)
     at + digest.len()
 }
 
-pub fn write_digests(answer: &mut [u8], image: &[u8], ix: Index)
+pub(crate) fn write_digests(answer: &mut [u8], image: &[u8], ix: Index)
     requires { ⌜ Fine ix ⌝ }
     ensures { λ _. ⌜ ((c : Contents) → ReadAs (now (image .entry)) ix c → now (answer .exit) ≡ splice (now (answer .entry)) 0 (digestsBytes c)) ⌝ }
 {

@@ -25,7 +25,7 @@ ghost use Rattle.image.specs.Sizes.{digestSize, digestMost, signatureMost};
 ghost use Rattle.image.specs.Index.{indexOf};
 ghost use Rattle.responder.specs.Read.{ReadAs, Known, Fine, Within};
 
-pub fn layout_of(g: Signer) -> usize
+pub(crate) fn layout_of(g: Signer) -> usize
     ensures { λ r. ⌜ r ≡ layoutOf g ⌝ }
 {
     match g {
@@ -34,7 +34,7 @@ pub fn layout_of(g: Signer) -> usize
     }
 }
 
-pub fn signature_of(ix: Index, g: Signer) -> usize
+pub(crate) fn signature_of(ix: Index, g: Signer) -> usize
     ensures { λ r. ⌜ ((b : List ℕ) → r ≡ signatureOf (factsAt b ix) g) × (r ≤ signatureMost) ⌝ }
 {
     match g {
@@ -54,7 +54,7 @@ fn block_count(ix: Index, o: Operation) -> u8
 }
 
 // MEASUREMENTS without its signature.
-pub fn measurements_size(ix: Index, o: Operation) -> usize
+pub(crate) fn measurements_size(ix: Index, o: Operation) -> usize
     requires { ⌜ Fine ix ⌝ }
     ensures { λ r. ⌜ ((b : List ℕ) → r ≡ measurementsSize (factsAt b ix) o) ⌝ }
 {
@@ -102,7 +102,7 @@ fn decide_operation(image: &[u8], ix: Index, s: State, x: u8, g: Signer) -> Deci
     decide_size(ix, s, Operation::One(i), g)
 }
 
-pub fn decide_measurements(image: &[u8], ix: Index, s: State, r: &[u8]) -> Decision
+pub(crate) fn decide_measurements(image: &[u8], ix: Index, s: State, r: &[u8]) -> Decision
     requires { ⌜ (Fine ix) × ((Within s) × (headerLength ≤ length (now r))) ⌝ }
     ensures { λ d. ⌜ d ≡ measurementsDecision (factsAt (now (image .entry)) ix) s (now (r .entry)) ⌝ }
 {
@@ -195,7 +195,7 @@ fn slot_shown(g: Signer) -> u8
 }
 
 // MEASUREMENTS, with zeros for its signature.
-pub fn write_measurements(
+pub(crate) fn write_measurements(
     answer: &mut [u8],
     image: &[u8],
     ix: Index,

@@ -60,13 +60,14 @@ fn write_texts(out: &mut [u8])
 pub fn first_part(s: State, transcript: &[u8]) -> &[u8]
     ensures { λ r. ⌜ now r ≡ signedFirst s (now (transcript .entry)) ⌝ }
 {
+    let part = wire::part_of(transcript, 0, s.a as usize);
     if s.awaited == AWAITS_CHALLENGE {
-        return wire::part_of(transcript, 0, s.a as usize);
+        return part;
     }
     if s.awaited == AWAITS_MEASUREMENTS {
-        return wire::part_of(transcript, 0, s.a as usize);
+        return part;
     }
-    wire::part_of(transcript, 0, 0)
+    wire::part_of(part, 0, 0)
 }
 
 // The second part: B, or M.

@@ -17,7 +17,7 @@ ghost use Rattle.model.specs.Facts.{factsAt};
 ghost use Rattle.model.specs.Steps.{kindOf, mustWait, serves, versionFor, inPhase, invalid, sizeSteps};
 
 // What a request code asks for: every code that is not served, RESPOND_IF_READY included, is unsupported.
-pub fn kind_of(code: u8) -> Kind
+pub(crate) fn kind_of(code: u8) -> Kind
     ensures { λ r. ⌜ r ≡ kindOf code ⌝ }
 {
     match code {
@@ -36,7 +36,7 @@ pub fn kind_of(code: u8) -> Kind
 }
 
 // Step 3: a signature is awaited, and this is no GET_VERSION.
-pub fn must_wait(s: State, code: u8) -> bool
+pub(crate) fn must_wait(s: State, code: u8) -> bool
     ensures { λ r. ⌜ r ≡ mustWait s code ⌝ }
 {
     if s.awaited == 0 {
@@ -49,7 +49,7 @@ pub fn must_wait(s: State, code: u8) -> bool
 }
 
 // Step 4.
-pub fn serves_kind(ix: Index, k: Kind) -> bool
+pub(crate) fn serves_kind(ix: Index, k: Kind) -> bool
     ensures { λ r. ⌜ ((b : List ℕ) → r ≡ serves (factsAt b ix) k) ⌝ }
 {
     match k {
@@ -65,7 +65,7 @@ pub fn serves_kind(ix: Index, k: Kind) -> bool
 }
 
 // Step 5.
-pub fn version_for(k: Kind) -> u8
+pub(crate) fn version_for(k: Kind) -> u8
     ensures { λ r. ⌜ r ≡ versionFor k ⌝ }
 {
     match k {
@@ -90,7 +90,7 @@ fn measures(s: State) -> bool
 }
 
 // Step 6.
-pub fn in_phase(s: State, k: Kind) -> bool
+pub(crate) fn in_phase(s: State, k: Kind) -> bool
     ensures { λ r. ⌜ r ≡ inPhase s k ⌝ }
 {
     match k {
@@ -106,27 +106,27 @@ pub fn in_phase(s: State, k: Kind) -> bool
 }
 
 // The image reader's number, as the host sees it.
-pub fn number(n: u8) -> u32
+pub(crate) fn number(n: u8) -> u32
     ensures { λ r. ⌜ r ≡ n ⌝ }
 {
     n as u32
 }
 
-pub fn refusal(code: u8, extra: u8) -> Decision
+pub(crate) fn refusal(code: u8, extra: u8) -> Decision
     ensures { λ r. ⌜ r ≡ Decision.Error code extra ⌝ }
 {
     Decision::Error { code, extra }
 }
 
 // Step 7 refuses with this.
-pub fn invalid_request() -> Decision
+pub(crate) fn invalid_request() -> Decision
     ensures { λ r. ⌜ r ≡ invalid ⌝ }
 {
     refusal(INVALID_REQUEST, 0)
 }
 
 // Steps 8 and 9.
-pub fn size_steps(s: State, size: usize, used: usize, limit: u32, next: Decision) -> Decision
+pub(crate) fn size_steps(s: State, size: usize, used: usize, limit: u32, next: Decision) -> Decision
     ensures { λ r. ⌜ r ≡ sizeSteps s size used limit next ⌝ }
 {
     if (s.peer as usize) < size {

@@ -5,7 +5,14 @@ ghost use Prim.Native.Nat.{_≤_, _+_};
 ghost use lib.ListN.{length, take};
 ghost use Rattle.wire.specs.Bytes.{splice};
 
-pub fn append(t: &mut [u8], at: usize, request: &[u8], layout: usize, answer: &[u8], n: usize)
+pub(crate) fn append(
+    t: &mut [u8],
+    at: usize,
+    request: &[u8],
+    layout: usize,
+    answer: &[u8],
+    n: usize,
+)
     requires { ⌜ (layout ≤ length (now request)) × (at ≤ 16384) ⌝ }
     ensures { λ _. ⌜ now (t .exit) ≡ splice (now (t .entry)) at (take layout (now (request .entry)) ++ take n (now (answer .entry))) ⌝ }
 {

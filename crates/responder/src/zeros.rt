@@ -6,7 +6,7 @@ ghost use Rattle.wire.specs.Bytes.{splice};
 ghost use Rattle.image.specs.Sizes.{signatureMost};
 
 // len zero bytes from a place on: at most an opaque length and a signature.
-pub fn write_zeros(answer: &mut [u8], at: usize, len: usize)
+pub(crate) fn write_zeros(answer: &mut [u8], at: usize, len: usize)
     requires { ⌜ len ≤ 2 + signatureMost ⌝ }
     ensures { λ _. ⌜ now (answer .exit) ≡ splice (now (answer .entry)) at (replicate len 0) ⌝ }
 {

@@ -13,34 +13,20 @@ part-of-requires c κs = search needs
 
 returns : tie.Need-returns
 unfolding signedFirst
-returns c = rw (c .part-of .ensures) (search picks depth 8)
+returns c = rw (c .before .before .part-of .ensures) (search picks depth 8)
 
-cast-part-of-2 : tie.Need-cast-part-of-2
-cast-part-of-2 c = search needs
+returns-2 : tie.Need-returns-2
+unfolding signedFirst
+returns-2 c = rw (c .before .before .before .before .part-of .ensures) (search picks depth 8)
 
 part-of-requires-2 : tie.Need-part-of-requires-2
 part-of-requires-2 c κs = search needs
 
-returns-2 : tie.Need-returns-2
-unfolding signedFirst
-returns-2 c = rw (c .part-of2 .ensures) (search picks depth 8)
-
-part-of-requires-3 : tie.Need-part-of-requires-3
-part-of-requires-3 c κs = search needs
-
 returns-3 : tie.Need-returns-3
 unfolding signedFirst
-returns-3 c = rw (c .part-of3 .ensures) (search picks depth 8)
+returns-3 c = rw (c .part-of2 .ensures) (search picks depth 8)
 
 pub first-part-spec : {M : Type 1} → statement M
 first-part-spec =
     tie.close
-    (tie.spec
-    cast-part-of
-    part-of-requires
-    returns
-    cast-part-of-2
-    part-of-requires-2
-    returns-2
-    part-of-requires-3
-    returns-3)
+    (tie.spec cast-part-of part-of-requires returns returns-2 part-of-requires-2 returns-3)
