@@ -24,7 +24,7 @@ use Rattle.model.specs.Plain.{Shown}
 use Rattle.model.specs.Box.{changedState, stateAfter}
 use Rattle.model.specs.declared.State.{State}
 use Rattle.history.specs.Runs.{Call, Held, lentOf, boxNext, boxSaid, boxRun}
-use Rattle.history.specs.Reads.{Ask, call, effectOn, Accepted, Unnumbered, heldAfter, Calls, untilAlgorithms, untilReads, Exchange, exchanges, View, nothing, lookAt, looked, askedLeast, IsRead, OnlyReads, readsOf, Panel, ReadOn}
+use Rattle.history.specs.Reads.{Ask, call, effectOn, Accepted, Unnumbered, heldAfter, Calls, untilAlgorithms, untilReads, Exchange, exchanges, View, nothing, lookAt, looked, askedLeast, IsRead, OnlyReads, readsOf, Requester, ReadOn}
 use Rattle.history.proofs.Holdings.{chain-short, digestsMost, digests-short}
 use Rattle.history.proofs.Ready.{Ready, negotiated, digested}
 use Rattle.history.proofs.Portions.{Portion, portion, ReadsBack, reads-back, Room, capacity, room-now, room-next}
@@ -194,7 +194,7 @@ none-left zero h L n more paid e = refl
 none-left (suc left) h L n more paid e = let a = more (omega arith) in let b = paid a in absurd (omega arith)
 
 -- demand 3, second half
-pub reads-whole : (h : Held) (image : List ℕ) (c : Contents) (k : ℕ) (s : Calls) → Panel h image c k s → ReadOn (slotChain c k) (readsOf image h s)
+pub reads-whole : (h : Held) (image : List ℕ) (c : Contents) (k : ℕ) (s : Calls) → Requester h image c k s → ReadOn (slotChain c k) (readsOf image h s)
 unfolding heldAfter
 reads-whole h image c k s p =
     let chain : List ℕ = slotChain c k in

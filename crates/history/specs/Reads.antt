@@ -119,8 +119,8 @@ OnlyReads k v (x ∷ xs) = (0 < v .left) × (IsRead k (length (v .held)) (x .req
 abbrev pub readsOf : List ℕ → Held → Calls → List Exchange
 readsOf image h s = exchanges image (heldAfter h (untilReads image s)) (s .reads)
 
--- the panel of demand 3's second half, on a box that held h
-pub record Panel (h : Held) (image : List ℕ) (c : Contents) (k : ℕ) (s : Calls) : Type 0 where
+-- the requester (the paper's panel) of demand 3's second half, on a box that held h
+pub record Requester (h : Held) (image : List ℕ) (c : Contents) (k : ℕ) (s : Calls) : Type 0 where
   -- "lend one image": all other calls are made with it; it is a list of bytes, and c is what it holds
   pub octets : Bytes image
   pub holds : reading image ≡ found c
