@@ -1,0 +1,6 @@
+# make test is the gate: what .ci/run calls.
+.PHONY: test
+
+test:
+	rt fmt --check
+	rt ci
