@@ -1,6 +1,21 @@
-# make test is the gate: what .ci/run calls.
-.PHONY: test
+# make demo: a panel questions boxes with real signatures. make test: the gate, what .ci/run calls. make fuzz: the sanitizers.
+# make bench: the library's times beside plain Rust's.
+CARGO := cargo
+RUST := --offline --release --manifest-path rust/Cargo.toml
 
-test:
+.DEFAULT_GOAL := demo
+
+include demo.mk
+
+.PHONY: test rust-test bench
+
+rust-test: $(RESPONDER_LIB)
+	$(CARGO) test -q $(RUST)
+
+bench: $(RESPONDER_LIB)
+	$(CARGO) run -q $(RUST) --bin bench
+
+# rt ci removes target/ and proves everything from nothing, so it comes last.
+test: fuzz-short demo-sanitized rust-test
 	rt fmt --check
 	rt ci

@@ -13,7 +13,6 @@ pub use lines::next_line;
 pub use text::put;
 pub use text::put_decimal;
 pub use text::put_hex;
-pub use text::put_hex_number;
 ghost use Prim.Native.Nat.{_≤_};
 ghost use lib.ListN.{length};
 

@@ -37,10 +37,3 @@ pub fn put_hex(text: &mut [u8], at: usize, bytes: &[u8]) -> usize {
     }
     end
 }
-
-// A number as eight hex digits.
-pub fn put_hex_number(text: &mut [u8], at: usize, n: u32) -> usize {
-    let mut digits = [0u8; 16];
-    let k = io::hex(n as u64, 8, &mut digits);
-    put(text, at, &digits[..k])
-}

@@ -1,0 +1,231 @@
+// A connection of the bench: requests with their answers, each printed.
+use crate::ANSWER;
+use crate::TRANSCRIPT;
+use crate::show::print;
+use crate::show::print_bytes;
+use crate::show::print_number;
+use crate::show::print_sum;
+use model::Reply;
+use model::State;
+
+// The codes of the requests.
+pub const GET_VERSION: u8 = 0x84;
+
+pub const GET_CAPABILITIES: u8 = 0xE1;
+
+pub const NEGOTIATE_ALGORITHMS: u8 = 0xE3;
+
+pub const GET_DIGESTS: u8 = 0x81;
+
+pub const GET_CERTIFICATE: u8 = 0x82;
+
+pub const CHALLENGE: u8 = 0x83;
+
+// The peer's GET_CAPABILITIES: both sizes are 4,608.
+const PEER: [u8; 20] =
+    *b"\x12\xE1\x00\x00\x00\x00\x00\x00\x00\x00\x00\x00\x00\x12\x00\x00\x00\x12\x00\x00";
+
+// The peer's NEGOTIATE_ALGORITHMS: the DMTF's measurement specification, P-256 and SHA-256.
+const OFFER: [u8; 32] =
+    *b"\x12\xE3\x00\x00\x20\x00\x01\x00\x10\x00\x00\x00\x01\x00\x00\x00\x00\x00\x00\x00\x00\x00\x00\x00\x00\x00\x00\x00\x00\x00\x00\x00";
+
+// The code of the answer to GET_CERTIFICATE.
+const CERTIFICATE: u8 = 0x02;
+
+// The prefix that is signed has so many bytes.
+const PREFIX: usize = 100;
+
+// A portion of a chain has at most so many bytes, and a chain at most so many portions.
+const PORTION: u16 = 1024;
+
+const PORTIONS: u16 = 4;
+
+// What was answered, or the number that the host sees.
+fn print_reply(reply: Reply, answer: &[u8]) {
+    print(b" -> ");
+    match reply {
+        Reply::Number(number) => {
+            print(b"number ");
+            print_number(number as u64);
+        }
+        Reply::Answer(n) => print_bytes(wire::part_of(answer, 0, n)),
+    }
+    print(b"\n");
+}
+
+// What the chip is to sign: the prefix, and the hash over two parts of the transcript.
+fn print_signed(s: State, transcript: &[u8]) {
+    let mut prefix = [0u8; PREFIX];
+    responder::signing::write_prefix(s.awaited, &mut prefix);
+    print(b" [prefix of ");
+    print_sum(&prefix);
+    print(b"; hashed ");
+    print_sum(responder::signing::first_part(s, transcript));
+    print(b" and ");
+    print_sum(responder::signing::second_part(s, transcript));
+    print(b"]");
+}
+
+// Finishes a signed answer; the chip's signature is a fixed pattern.
+fn finish(image: &[u8], s: State, transcript: &[u8], answer: &mut [u8]) -> State {
+    print_signed(s, transcript);
+    let o = responder::signing::finish(
+        image,
+        s,
+        transcript,
+        answer,
+        true,
+        b"the chip's signature of 64 bytes, which is a pattern for a test.",
+    );
+    let reply = o.reply;
+    print_reply(reply, answer);
+    o.state
+}
+
+// Sends a request, finishes the answer if it is a signed one, and prints both.
+pub fn ask(
+    image: &[u8],
+    s: State,
+    transcript: &mut [u8; TRANSCRIPT],
+    answer: &mut [u8; ANSWER],
+    name: &[u8],
+    request: &[u8],
+) -> State {
+    print(b"  ");
+    print(name);
+    print(b" ");
+    print_bytes(request);
+    let o = responder::respond(
+        image,
+        s,
+        transcript,
+        answer,
+        request,
+        b"the responder's nonce, 32 bytes.",
+    );
+    if o.state.awaited != 0 {
+        return finish(image, o.state, transcript, answer);
+    }
+    let reply = o.reply;
+    print_reply(reply, answer);
+    o.state
+}
+
+// Sends a CHALLENGE.
+pub fn challenge(
+    image: &[u8],
+    s: State,
+    transcript: &mut [u8; TRANSCRIPT],
+    answer: &mut [u8; ANSWER],
+    version: u8,
+    slot: u8,
+    summary: u8,
+) -> State {
+    let mut request = [0u8; 36];
+    wire::copy_into(&mut request, 0, &[version, CHALLENGE, slot, summary]);
+    wire::copy_into(&mut request, 4, b"the requester's nonce, 32 bytes.");
+    ask(image, s, transcript, answer, b"CHALLENGE", &request)
+}
+
+// Whether nothing is left to read behind an answer: it is no CERTIFICATE, or its remainder is 0.
+fn read_whole(answer: &[u8]) -> bool {
+    if wire::byte_at(answer, 1) != CERTIFICATE {
+        return true;
+    }
+    wire::get_u16le(answer, 6) == 0
+}
+
+// Reads a slot's chain to its end, each time with the largest length.
+fn read_chain(
+    image: &[u8],
+    s: State,
+    transcript: &mut [u8; TRANSCRIPT],
+    answer: &mut [u8; ANSWER],
+    slot: u8,
+) -> State {
+    let mut after = s;
+    for k in 0..PORTIONS {
+        let offset = k * PORTION;
+        after = ask(
+            image,
+            after,
+            transcript,
+            answer,
+            b"GET_CERTIFICATE",
+            &[
+                0x12,
+                GET_CERTIFICATE,
+                slot,
+                0,
+                (offset % 256) as u8,
+                (offset / 256) as u8,
+                0xFF,
+                0xFF,
+            ],
+        );
+        if read_whole(answer) {
+            break;
+        }
+    }
+    after
+}
+
+// Sends the request of a code, for a slot and a Param2 of CHALLENGE where it has them.
+fn send(
+    image: &[u8],
+    s: State,
+    transcript: &mut [u8; TRANSCRIPT],
+    answer: &mut [u8; ANSWER],
+    code: u8,
+    slot: u8,
+    summary: u8,
+) -> State {
+    match code {
+        GET_VERSION => ask(
+            image,
+            s,
+            transcript,
+            answer,
+            b"GET_VERSION",
+            b"\x10\x84\x00\x00",
+        ),
+        GET_CAPABILITIES => ask(image, s, transcript, answer, b"GET_CAPABILITIES", &PEER),
+        NEGOTIATE_ALGORITHMS => ask(
+            image,
+            s,
+            transcript,
+            answer,
+            b"NEGOTIATE_ALGORITHMS",
+            &OFFER,
+        ),
+        GET_DIGESTS => ask(
+            image,
+            s,
+            transcript,
+            answer,
+            b"GET_DIGESTS",
+            b"\x12\x81\x00\x00",
+        ),
+        GET_CERTIFICATE => read_chain(image, s, transcript, answer, slot),
+        _ => challenge(image, s, transcript, answer, 0x12, slot, summary),
+    }
+}
+
+// Sends a run of requests, each by its code.
+pub fn run(
+    image: &[u8],
+    s: State,
+    transcript: &mut [u8; TRANSCRIPT],
+    answer: &mut [u8; ANSWER],
+    codes: &[u8],
+    slot: u8,
+    summary: u8,
+) -> State {
+    let mut after = s;
+    let mut i = 0;
+    while i < codes.len() {
+        after = send(image, after, transcript, answer, codes[i], slot, summary);
+        i += 1;
+    }
+    after
+}

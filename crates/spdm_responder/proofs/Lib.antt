@@ -1,0 +1,5 @@
+pub mod Numbers
+pub mod OtherLengths
+pub mod Replies
+pub mod ShownLaws
+pub mod WordLaws

@@ -1,0 +1,189 @@
+// Fuzzing the C interface: the input drives a list of calls.
+#include "calls.h"
+#include "inputs.h"
+
+#include <stdio.h>
+#include <stdlib.h>
+#include <string.h>
+#include <unistd.h>
+
+enum { STEP_LIMIT = 64 };
+
+static void step_request(struct driver *driver, struct feed *feed, unsigned kind, unsigned places)
+{
+    write_request(&driver->world, feed, kind);
+    damage_request(&driver->world, feed);
+    choose_lengths(&driver->world, feed);
+    memset(driver->world.nonce, (int)next(feed), 64);
+    call_respond(driver, places);
+}
+
+// GET_VERSION, GET_CAPABILITIES and NEGOTIATE_ALGORITHMS, undamaged but for the peer's size.
+static void step_connect(struct driver *driver, struct feed *feed, unsigned places)
+{
+    struct feed none = {NULL, 0};
+    repair(&driver->world, feed);
+    right_lengths(&driver->world);
+    for (unsigned kind = VERSION; kind <= ALGORITHMS; kind++) {
+        write_request(&driver->world, kind == CAPABILITIES ? feed : &none, kind);
+        if (kind == ALGORITHMS)
+            driver->world.request[6] = 1;
+        call_respond(driver, places);
+    }
+}
+
+// GET_VERSION and GET_CAPABILITIES, then offers of every shape until one is accepted.
+static void step_negotiate(struct driver *driver, struct feed *feed, unsigned places)
+{
+    struct feed none = {NULL, 0};
+    repair(&driver->world, feed);
+    right_lengths(&driver->world);
+    write_request(&driver->world, &none, VERSION);
+    call_respond(driver, places);
+    write_request(&driver->world, &none, CAPABILITIES);
+    call_respond(driver, places);
+    for (unsigned i = 0; i < 4; i++) {
+        write_request(&driver->world, feed, ALGORITHMS);
+        damage_request(&driver->world, feed);
+        call_respond(driver, places);
+    }
+}
+
+// Reads a chain from its start, as the second half of demand 3 has it.
+static void step_read_chain(struct driver *driver, struct feed *feed, unsigned places)
+{
+    const unsigned length = 34 + next(feed) * 4;
+    unsigned offset = 0;
+    right_lengths(&driver->world);
+    for (unsigned i = 0; i < 130; i++) {
+        write_read(&driver->world, offset, length);
+        call_respond(driver, places);
+        const uint8_t *answer = driver->world.answer;
+        if (answer[1] != 0x02 || (answer[6] | answer[7]) == 0)
+            return;
+        offset += answer[4] | (unsigned)answer[5] << 8;
+    }
+}
+
+static void step_finish(struct driver *driver, struct feed *feed, unsigned places)
+{
+    struct world *world = &driver->world;
+    choose_lengths(world, feed);
+    if (next(feed) % 8 == 0)
+        world->signature_length = next_16(feed) % 600;
+    world->chip_ok = next(feed) % 4 ? 1 + next(feed) : 0;
+    memset(world->signature, (int)next(feed), 600);
+    call_finish(driver, places);
+}
+
+// CHALLENGE or signed GET_MEASUREMENTS, what to sign, finishing: the order of a careful host.
+static void step_signed(struct driver *driver, struct feed *feed, unsigned places)
+{
+    struct world *world = &driver->world;
+    const bool challenge = next(feed) & 1;
+    if (world->state[PHASE] != 3)
+        step_connect(driver, feed, places);
+    write_request(world, feed, challenge ? CHALLENGE : MEASUREMENTS);
+    if (!challenge) {
+        world->request[2] |= 1;
+        world->request_length = 37;
+    }
+    right_lengths(world);
+    call_respond(driver, places);
+    call_to_sign(driver, places);
+    step_finish(driver, feed, places);
+}
+
+static void step_to_sign(struct driver *driver, struct feed *feed, unsigned places)
+{
+    choose_lengths(&driver->world, feed);
+    memset(driver->world.prefix, 0x3C, sizeof driver->world.prefix);
+    memset(driver->world.parts, 0x3C, sizeof driver->world.parts);
+    call_to_sign(driver, places);
+}
+
+static void step(struct driver *driver, struct feed *feed)
+{
+    struct world *world = &driver->world;
+    const unsigned choice = next(feed) % 28, places = next(feed);
+    switch (choice) {
+    case 8: case 9: step_connect(driver, feed, places); break;
+    case 10: case 11: case 12: step_finish(driver, feed, places); break;
+    case 13: step_to_sign(driver, feed, places); break;
+    case 14: call_read_image(driver, places); break;
+    case 15: choose_image(world, feed); break;
+    case 16: damage_image(world, feed); break;
+    case 17: poke_state(world, feed); break;
+    case 18: full_state(world, feed); break;
+    case 19: memset(world->state, 0, sizeof world->state); break;
+    case 20: step_read_chain(driver, feed, places); break;
+    case 21: step_request(driver, feed, CHALLENGE, places); break;
+    case 22: step_request(driver, feed, MEASUREMENTS, places); break;
+    case 23: case 24: step_signed(driver, feed, places); break;
+    case 25: step_negotiate(driver, feed, places); break;
+    case 26: damage_image(world, feed); break;
+    case 27: memset(world->answer, (int)next(feed), ANSWER_ROOM); break;
+    default: step_request(driver, feed, choice, places);
+    }
+}
+
+static void start_world(struct world *world, struct feed *feed)
+{
+    memset(world, 0, sizeof *world);
+    memset(world->transcript, (int)next(feed), TRANSCRIPT_ROOM);
+    memset(world->answer, (int)next(feed), ANSWER_ROOM);
+    world->words = 8;
+    choose_image(world, feed);
+}
+
+int LLVMFuzzerTestOneInput(const uint8_t *data, size_t size);
+
+int LLVMFuzzerTestOneInput(const uint8_t *data, size_t size)
+{
+    struct driver *driver = the_driver();
+    struct feed feed = {data, size};
+    start_world(&driver->world, &feed);
+    for (unsigned i = 0; i < STEP_LIMIT && feed.left > 0; i++)
+        step(driver, &feed);
+    driver->counts.inputs++;
+    return 0;
+}
+
+#ifndef WITH_LIBFUZZER
+
+// xorshift64*: the same inputs for the same seed, everywhere.
+static uint64_t draw(uint64_t *seed)
+{
+    *seed ^= *seed >> 12;
+    *seed ^= *seed << 25;
+    *seed ^= *seed >> 27;
+    return *seed * 0x2545F4914F6CDD1DULL;
+}
+
+static void run_input(uint64_t *seed)
+{
+    uint8_t input[512];
+    const size_t length = 16 + draw(seed) % (sizeof input - 16);
+    for (size_t i = 0; i < length; i++)
+        input[i] = (uint8_t)(draw(seed) >> 56);
+    alarm(20);
+    LLVMFuzzerTestOneInput(input, length);
+    alarm(0);
+}
+
+// Arguments: how many inputs, and a seed. An input that takes 20 seconds is stopped by SIGALRM.
+int main(int count, char **words)
+{
+    const unsigned long inputs = count > 1 ? strtoul(words[1], NULL, 10) : 1000;
+    const uint64_t start = count > 2 ? strtoull(words[2], NULL, 10) : 1;
+    uint64_t seed = start * 0x9E3779B97F4A7C15ULL | 1;
+    for (unsigned long i = 0; i < inputs; i++)
+        run_input(&seed);
+    const struct counts *counts = &the_driver()->counts;
+    printf("fuzz: seed %llu, %lu inputs, %lu calls (%lu numbers, %lu ERRORs, %lu accepted, %lu finished), no finding\n",
+        (unsigned long long)start, counts->inputs, counts->calls, counts->numbers, counts->errors, counts->accepted,
+        counts->finished);
+    return 0;
+}
+
+#endif

@@ -1,0 +1,48 @@
+// The box's host: builds the provisioning image, lends buffers to the library, has the chip sign.
+#ifndef BOX_H
+#define BOX_H
+
+#include "chip.h"
+#include "terms.h"
+
+enum {
+    IMAGE_LIMIT = 36864,
+    TRANSCRIPT_SIZE = 16384,
+    STATE_WORDS = 8,
+    CT_EXPONENT = 14,
+};
+
+struct box {
+    const struct chip *chip;
+    bool chip_fails;
+    size_t image_length;
+    uint8_t image[IMAGE_LIMIT];
+    uint32_t state[STATE_WORDS];
+    uint8_t transcript[TRANSCRIPT_SIZE];
+    uint8_t answer[MESSAGE_LIMIT];
+    uint32_t number;
+};
+
+// A chain and the slot that it is provisioned in.
+struct slot {
+    uint8_t number;
+    const struct chain *chain;
+};
+
+// What an image is built from.
+struct provision {
+    const struct suite *suite;
+    const struct slot *slots;
+    size_t slot_count;
+    const struct component *components;
+    size_t component_count;
+};
+
+// Makes a fresh box with its image.
+bool box_make(struct box *box, const struct chip *chip, const struct provision *provision);
+
+// One request in, one answer out: the library's calls in their order, the chip between them.
+// Gives the answer's length; 0 if the library gave a number, which box->number then holds.
+size_t box_exchange(void *box, struct bytes request, uint8_t *answer, size_t room);
+
+#endif

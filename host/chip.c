@@ -1,0 +1,167 @@
+#include "chip.h"
+
+#include <openssl/bn.h>
+#include <openssl/ec.h>
+#include <openssl/ecdsa.h>
+#include <openssl/rand.h>
+#include <openssl/x509v3.h>
+#include <string.h>
+
+static const EVP_MD *hash_of(const struct suite *suite)
+{
+    return EVP_get_digestbyname(suite->hash);
+}
+
+bool chip_start(struct chip *chip, const struct suite *suite)
+{
+    chip->suite = suite;
+    chip->key = EVP_EC_gen(suite->curve);
+    return chip->key != NULL;
+}
+
+void chip_end(struct chip *chip)
+{
+    EVP_PKEY_free(chip->key);
+    chip->key = NULL;
+}
+
+// OpenSSL gives a DER structure of two numbers; SPDM wants both at full width, big-endian.
+static bool plain_signature(struct bytes der, uint8_t *signature, size_t size)
+{
+    const uint8_t *at = der.at;
+    ECDSA_SIG *pair = d2i_ECDSA_SIG(NULL, &at, (long)der.length);
+    int half = (int)size / 2;
+    bool good = pair
+        && BN_bn2binpad(ECDSA_SIG_get0_r(pair), signature, half) == half
+        && BN_bn2binpad(ECDSA_SIG_get0_s(pair), signature + half, half) == half;
+    ECDSA_SIG_free(pair);
+    return good;
+}
+
+static bool sign_message(const struct chip *chip, struct bytes message, uint8_t *signature)
+{
+    uint8_t der[256];
+    size_t length = sizeof der;
+    EVP_MD_CTX *context = EVP_MD_CTX_new();
+    bool good = context
+        && EVP_DigestSignInit(context, NULL, hash_of(chip->suite), NULL, chip->key) == 1
+        && EVP_DigestSign(context, der, &length, message.at, message.length) == 1
+        && plain_signature((struct bytes){der, length}, signature, chip->suite->signature_size);
+    EVP_MD_CTX_free(context);
+    return good;
+}
+
+bool chip_sign(const struct chip *chip, struct bytes prefix, struct bytes first, struct bytes second,
+    uint8_t *signature)
+{
+    uint8_t message[PREFIX_SIZE + DIGEST_LIMIT];
+    if (prefix.length != PREFIX_SIZE)
+        return false;
+    memcpy(message, prefix.at, PREFIX_SIZE);
+    if (!digest_of(chip->suite, (struct bytes[]){first, second}, 2, message + PREFIX_SIZE))
+        return false;
+    return sign_message(chip, (struct bytes){message, PREFIX_SIZE + chip->suite->digest_size}, signature);
+}
+
+static bool set_serial(X509 *certificate)
+{
+    uint8_t random[8];
+    if (RAND_bytes(random, sizeof random) != 1)
+        return false;
+    random[0] = (random[0] & 0x7F) | 0x40;
+    BIGNUM *number = BN_bin2bn(random, sizeof random, NULL);
+    bool good = number && BN_to_ASN1_INTEGER(number, X509_get_serialNumber(certificate));
+    BN_free(number);
+    return good;
+}
+
+static bool set_dates(X509 *certificate)
+{
+    const long ten_years = 10L * 365 * 24 * 3600;
+    return X509_gmtime_adj(X509_getm_notBefore(certificate), -3600)
+        && X509_gmtime_adj(X509_getm_notAfter(certificate), ten_years);
+}
+
+static bool set_name(X509 *certificate, const char *name)
+{
+    X509_NAME *subject = X509_get_subject_name(certificate);
+    return X509_NAME_add_entry_by_txt(subject, "CN", MBSTRING_ASC, (const uint8_t *)name, -1, -1, 0) == 1;
+}
+
+static bool add_extension(X509 *certificate, int kind, const char *value)
+{
+    X509_EXTENSION *extension = X509V3_EXT_conf_nid(NULL, NULL, kind, value);
+    bool good = extension && X509_add_ext(certificate, extension, -1) == 1;
+    X509_EXTENSION_free(extension);
+    return good;
+}
+
+static bool set_use(X509 *certificate, bool is_root)
+{
+    return add_extension(certificate, NID_basic_constraints, is_root ? "critical,CA:TRUE" : "critical,CA:FALSE")
+        && add_extension(certificate, NID_key_usage, is_root ? "critical,keyCertSign" : "critical,digitalSignature");
+}
+
+// A certificate for a key, signed by the maker; without an issuer it is the maker's own root.
+static X509 *certificate_for(const struct maker *maker, EVP_PKEY *key, const char *name, X509 *issuer)
+{
+    X509 *made = X509_new();
+    bool good = made && X509_set_version(made, X509_VERSION_3) == 1
+        && set_serial(made) && set_dates(made) && set_name(made, name)
+        && X509_set_issuer_name(made, X509_get_subject_name(issuer ? issuer : made)) == 1
+        && X509_set_pubkey(made, key) == 1
+        && set_use(made, issuer == NULL)
+        && X509_sign(made, maker->key, hash_of(maker->suite)) > 0;
+    if (good)
+        return made;
+    X509_free(made);
+    return NULL;
+}
+
+static bool set_root_digest(struct maker *maker)
+{
+    unsigned length = 0;
+    return X509_digest(maker->root, hash_of(maker->suite), maker->root_digest, &length) == 1
+        && length == maker->suite->digest_size;
+}
+
+bool maker_start(struct maker *maker, const struct suite *suite, const char *name)
+{
+    maker->suite = suite;
+    maker->root = NULL;
+    maker->key = EVP_EC_gen(suite->curve);
+    if (maker->key)
+        maker->root = certificate_for(maker, maker->key, name, NULL);
+    return maker->root && set_root_digest(maker);
+}
+
+void maker_end(struct maker *maker)
+{
+    X509_free(maker->root);
+    EVP_PKEY_free(maker->key);
+    maker->root = NULL;
+    maker->key = NULL;
+}
+
+// Appends a certificate to the chain in DER.
+static bool append_certificate(struct chain *chain, X509 *certificate)
+{
+    int length = i2d_X509(certificate, NULL);
+    if (length <= 0 || chain->length + (size_t)length > sizeof chain->bytes)
+        return false;
+    uint8_t *at = chain->bytes + chain->length;
+    chain->length += (size_t)length;
+    return i2d_X509(certificate, &at) == length;
+}
+
+bool maker_certify(const struct maker *maker, const struct chip *chip, const char *name, struct chain *chain)
+{
+    X509 *leaf = certificate_for(maker, chip->key, name, maker->root);
+    memset(chain->bytes, 0, 4);
+    memcpy(chain->bytes + 4, maker->root_digest, maker->suite->digest_size);
+    chain->length = 4 + maker->suite->digest_size;
+    bool good = leaf && append_certificate(chain, maker->root) && append_certificate(chain, leaf);
+    write_16(chain->bytes, (unsigned)chain->length);
+    X509_free(leaf);
+    return good;
+}

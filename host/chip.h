@@ -1,0 +1,37 @@
+// A key chip in software, and the maker who certifies chips.
+#ifndef CHIP_H
+#define CHIP_H
+
+#include "terms.h"
+
+#include <openssl/evp.h>
+#include <openssl/x509.h>
+
+// One chip holds one private key, which never leaves it.
+struct chip {
+    const struct suite *suite;
+    EVP_PKEY *key;
+};
+
+// A maker has a self-signed root certificate.
+struct maker {
+    const struct suite *suite;
+    EVP_PKEY *key;
+    X509 *root;
+    uint8_t root_digest[DIGEST_LIMIT];
+};
+
+bool chip_start(struct chip *chip, const struct suite *suite);
+void chip_end(struct chip *chip);
+
+// Signs the prefix followed by the digest of the transcript's two parts. The signature is r, then s.
+bool chip_sign(const struct chip *chip, struct bytes prefix, struct bytes first, struct bytes second,
+    uint8_t *signature);
+
+bool maker_start(struct maker *maker, const struct suite *suite, const char *name);
+void maker_end(struct maker *maker);
+
+// Writes the chain of the maker's root and a new leaf certificate for the chip's key.
+bool maker_certify(const struct maker *maker, const struct chip *chip, const char *name, struct chain *chain);
+
+#endif

@@ -1,0 +1,28 @@
+// Prints a conversation so that a person can follow it, and the outcome of checks.
+#ifndef SHOW_H
+#define SHOW_H
+
+#include "terms.h"
+
+struct show {
+    bool quiet;
+    const struct suite *suite;
+    unsigned reads;
+    unsigned skipped;
+    unsigned checks;
+    unsigned wrong;
+};
+
+void show_title(struct show *show, const char *title);
+void show_note(struct show *show, const char *note);
+
+// One request and its answer. Of many portions of a chain the first two and the last are printed.
+void show_exchange(struct show *show, struct bytes request, struct bytes answer);
+
+// A named check. Its line is always printed.
+void show_check(struct show *show, bool good, const char *format, ...) __attribute__((format(printf, 3, 4)));
+
+// The last line. Gives the exit status.
+int show_end(const struct show *show);
+
+#endif

@@ -1,0 +1,163 @@
+/*
+ * An SPDM 1.2 responder for one connection.
+ *
+ * Every function tests all that it is given and always returns. It keeps nothing between two calls, allocates nothing and
+ * calls nothing but memcpy and memset: the host holds state, transcript and answer, and lends them (docs/HOST.md).
+ *
+ * A pointer and the length behind it lend that many elements for the time of the call: bytes, or 32-bit words for
+ * `state` and `parts`. Buffers that are written must not overlap any other buffer of the same call. A pointer with
+ * length 0 is never followed.
+ */
+#ifndef SPDM_RESPONDER_H
+#define SPDM_RESPONDER_H
+
+#include <stddef.h>
+#include <stdint.h>
+
+#ifdef __cplusplus
+extern "C" {
+#endif
+
+/* Sizes. */
+#define SPDM_STATE_WORDS 8         /* exactly this many words of state */
+#define SPDM_ANSWER_MIN 4608       /* at least this many bytes for an answer; no answer is longer */
+#define SPDM_TRANSCRIPT_MIN 16384  /* at least this many bytes of transcript; none past it is used */
+#define SPDM_NONCE_LEN 32          /* exactly this many bytes of nonce */
+#define SPDM_PREFIX_LEN 100        /* the prefix that is signed before the hash */
+#define SPDM_PARTS_WORDS 4         /* offset and length of two parts */
+#define SPDM_IMAGE_MAX 36864       /* the longest image that is accepted */
+
+/*
+ * The state of a connection: 8 words, all zero when it is fresh. The host may read them, and must write none but to
+ * make them all zero: a fresh connection.
+ */
+#define SPDM_STATE_PHASE 0         /* 0 nothing said, 1 after VERSION, 2 after CAPABILITIES, 3 after ALGORITHMS */
+#define SPDM_STATE_PEER 1          /* the peer's DataTransferSize */
+#define SPDM_STATE_SELECTION 2     /* 1 if the measurement specification was selected */
+#define SPDM_STATE_A 3             /* bytes used of A, */
+#define SPDM_STATE_B 4             /*   of B */
+#define SPDM_STATE_M 5             /*   and of M */
+#define SPDM_STATE_AWAITED 6       /* whose signature is awaited: 0 none, else one of the two below */
+#define SPDM_STATE_ANSWER 7        /* the awaited answer's length, 0 if none is awaited */
+
+#define SPDM_AWAITS_CHALLENGE 1
+#define SPDM_AWAITS_MEASUREMENTS 2
+
+/* `parts` after spdm_to_sign: offset and length in the transcript. */
+#define SPDM_PARTS_FIRST_OFFSET 0  /* A */
+#define SPDM_PARTS_FIRST_LENGTH 1
+#define SPDM_PARTS_SECOND_OFFSET 2 /* B, or M */
+#define SPDM_PARTS_SECOND_LENGTH 3
+
+/*
+ * A result is number * 65536 + length. With a number (not 0) the length is 0, nothing was written, and state and
+ * buffers are as they were. Without one the length is that of the answer.
+ */
+#define SPDM_NUMBER(result) ((uint32_t)(result) >> 16)
+#define SPDM_LENGTH(result) ((uint32_t)(result) & 0xFFFFu)
+
+/* Numbers of an image: its first fault, record by record. */
+#define SPDM_IMAGE_SIZE 1          /* empty, or over 36,864 bytes */
+#define SPDM_IMAGE_VERSION 2       /* byte 0 is not 1 */
+#define SPDM_IMAGE_BROKEN 3        /* 1 or 2 bytes left for a record head, or a body that runs past the end */
+#define SPDM_IMAGE_KIND 4          /* a kind unknown or out of sequence, or, at the end, a needed record missing */
+#define SPDM_IMAGE_MANY 5          /* a 9th chain or a 33rd measurement */
+#define SPDM_IMAGE_LENGTH 6        /* a body's length is wrong, a chain's included */
+#define SPDM_IMAGE_FIELD 7         /* a field out of range, slot or index not rising, first slot not 0 */
+#define SPDM_IMAGE_CHAIN 8         /* a chain's own length field differs */
+
+/* Numbers of a call. */
+#define SPDM_SHORT_BUFFER 11       /* answer under 4,608 bytes; for spdm_to_sign: prefix under 100, or parts under 4 */
+#define SPDM_SHORT_TRANSCRIPT 12   /* transcript under 16,384 bytes */
+#define SPDM_WRONG_NONCE 13        /* nonce not 32 bytes */
+#define SPDM_WRONG_STATE 14        /* state out of its bounds, or not 8 words */
+#define SPDM_NOTHING_AWAITED 15    /* no signature is awaited */
+#define SPDM_WRONG_SIGNATURE 16    /* the chip succeeded, and its signature is not S bytes */
+
+/*
+ * Answers one request.
+ *
+ * nonce: 32 fresh random bytes, at every call; they go into an answer that carries a nonce.
+ *
+ * Numbers, the first that holds, in this order:
+ *   1-8  the image has this fault
+ *   11   answer_len is under 4,608
+ *   12   transcript_len is under 16,384
+ *   13   nonce_len is not 32
+ *   14   the state is out of its bounds for this image, or state_len is not 8
+ * (15 and 16 are not given.) Afterwards state, transcript and answer are as they were.
+ *
+ * Without a number the length is that of the answer, which stands at the start of `answer`; the bytes past it are as
+ * they were.
+ *   After a refused request, whose answer is an ERROR (its second byte is 0x7F): only the 4 or 8 bytes of the ERROR
+ *   were written. State and transcript are as they were.
+ *   After an accepted request: `answer` holds the answer, the request (as far as its layout goes) and the answer were
+ *   appended to the transcript, where no other byte was changed, and `state` is the next state. Where
+ *   state[SPDM_STATE_AWAITED] is not 0 afterwards, the answer must not be sent yet: its signature is zeros, to be
+ *   filled in by spdm_finish.
+ */
+uint32_t spdm_respond(const uint8_t *image, size_t image_len,
+                      uint32_t *state, size_t state_len,
+                      uint8_t *transcript, size_t transcript_len,
+                      uint8_t *answer, size_t answer_len,
+                      const uint8_t *request, size_t request_len,
+                      const uint8_t *nonce, size_t nonce_len);
+
+/*
+ * Finishes the awaited answer with the chip's signature, or with an ERROR where the chip failed. `answer` is the buffer
+ * that spdm_respond wrote the awaited answer to, unchanged since.
+ *
+ * chip_ok: 0 if the chip failed, anything else if it succeeded. The signature is not looked at if it failed.
+ *
+ * Numbers, the first that holds, in this order:
+ *   1-8  the image has this fault
+ *   11   answer_len is under 4,608
+ *   12   transcript_len is under 16,384
+ *   14   the state is out of its bounds for this image, or state_len is not 8
+ *   15   no signature is awaited
+ *   16   the chip succeeded, and signature_len is not the image's S
+ * (13 is not given.) Afterwards state and buffers are as they were: a signature is still awaited if it was.
+ *
+ * Without a number:
+ *   If the chip succeeded, the signature stands at the end of the awaited answer, and the length is that answer's.
+ *   If it failed, 12 7F 05 00 stands at the start of `answer`, and the length is 4.
+ * No other byte of `answer` was changed. The transcript is never written. In `state` nothing is awaited any more, and B
+ * (after a CHALLENGE) or M (after a GET_MEASUREMENTS) is empty: words 4 or 5, 6 and 7 are 0, the others as they were.
+ */
+uint32_t spdm_finish(const uint8_t *image, size_t image_len,
+                     uint32_t *state, size_t state_len,
+                     uint8_t *transcript, size_t transcript_len,
+                     uint8_t *answer, size_t answer_len,
+                     uint32_t chip_ok,
+                     const uint8_t *signature, size_t signature_len);
+
+/*
+ * Shows what to hash and sign for the awaited signature: the hash runs over A and then B (or M), and the signature over
+ * the prefix followed by that hash.
+ *
+ * Numbers, the first that holds, in this order:
+ *   11   prefix_len is under 100, or parts_len under 4
+ *   14   state_len is not 8, or the state is out of its bounds as far as this can be told without an image: phase over
+ *        3, A, B or M over 512, 8,192 or 7,680 bytes, awaited over 2, or awaited in another phase than 3
+ *   15   no signature is awaited
+ * (No others are given.) Afterwards prefix and parts are as they were.
+ *
+ * Without a number the length is 100: the first 100 bytes of `prefix` are the prefix, and the first 4 words of `parts`
+ * are offset and length in the transcript of A, then of B (or M). What lies past them is as it was. The state is never
+ * written.
+ */
+uint32_t spdm_to_sign(const uint32_t *state, size_t state_len,
+                      uint8_t *prefix, size_t prefix_len,
+                      uint32_t *parts, size_t parts_len);
+
+/*
+ * Whether an image is accepted: the result is 0, or has the number 1-8 of its first fault. Nothing is written.
+ * spdm_respond and spdm_finish read the image themselves at each call; this is to test one before it is put to use.
+ */
+uint32_t spdm_read_image(const uint8_t *image, size_t image_len);
+
+#ifdef __cplusplus
+}
+#endif
+
+#endif

@@ -1,0 +1,924 @@
+//! The plain responder: paper 01 written down once more, in ordinary Rust.
+//!
+//! It shares no code with the proved responder and was written from the paper, not from that code. Nothing in
+//! it is `unsafe`. Each call walks the records of the image once and keeps slices of it.
+//!
+//! The three public calls [`respond`], [`finish`] and [`to_sign`], and [`read_image`], have the meaning of the
+//! four functions of the C interface, slices taking the place of pointer and length.
+
+#![forbid(unsafe_code)]
+
+/// The longest image.
+pub const MAX_IMAGE: usize = 36_864;
+/// The longest message either way; also the least answer buffer.
+pub const MAX_MESSAGE: usize = 4_608;
+/// The least transcript buffer.
+pub const TRANSCRIPT: usize = 16_384;
+/// Where B and M begin in the transcript buffer (A begins at 0).
+pub const B_START: usize = 512;
+pub const M_START: usize = 8_704;
+/// How many bytes A, B and M can hold.
+pub const A_ROOM: usize = 512;
+pub const B_ROOM: usize = 8_192;
+pub const M_ROOM: usize = 7_680;
+/// The words of a state.
+pub const STATE_WORDS: usize = 8;
+/// The bytes of the prefix to be signed.
+pub const PREFIX: usize = 100;
+
+const MIN_PEER_SIZE: u32 = 42;
+const MAX_CHAIN: usize = 4_096;
+const MAX_PORTION: usize = 1_024;
+const MAX_CHAINS: usize = 8;
+const MAX_MEASUREMENTS: usize = 32;
+const NONCE: usize = 32;
+
+const HASH_SIZES: [usize; 6] = [32, 48, 64, 32, 48, 64];
+const SIGNATURE_SIZES: [usize; 9] = [256, 256, 384, 384, 64, 512, 512, 96, 132];
+
+/// The numbers the host sees.
+#[derive(Clone, Copy, Debug, PartialEq, Eq)]
+#[repr(u32)]
+pub enum Number {
+    ImageSize = 1,
+    ImageVersion = 2,
+    ImageCut = 3,
+    RecordSequence = 4,
+    TooManyRecords = 5,
+    BodyLength = 6,
+    FieldRange = 7,
+    ChainLength = 8,
+    AnswerBuffer = 11,
+    TranscriptBuffer = 12,
+    NonceLength = 13,
+    StateBounds = 14,
+    NothingAwaited = 15,
+    SignatureLength = 16,
+}
+
+// ---------------------------------------------------------------------------------------------- the image
+
+/// A slot number, 0 to 7.
+#[derive(Clone, Copy, Debug, PartialEq, Eq, PartialOrd, Ord)]
+pub struct Slot(u8);
+
+impl Slot {
+    pub fn new(number: u8) -> Option<Slot> {
+        (number < 8).then_some(Slot(number))
+    }
+
+    pub fn number(self) -> u8 {
+        self.0
+    }
+}
+
+/// A measurement index, 1 to 239.
+#[derive(Clone, Copy, Debug, PartialEq, Eq, PartialOrd, Ord)]
+pub struct Index(u8);
+
+impl Index {
+    pub fn new(number: u8) -> Option<Index> {
+        (1..=239).contains(&number).then_some(Index(number))
+    }
+
+    pub fn number(self) -> u8 {
+        self.0
+    }
+}
+
+/// One certificate chain and its digest.
+#[derive(Clone, Copy, Debug)]
+pub struct Chain<'a> {
+    pub digest: &'a [u8],
+    pub bytes: &'a [u8],
+}
+
+/// One measurement.
+#[derive(Clone, Copy, Debug)]
+pub struct Measurement<'a> {
+    pub index: Index,
+    pub kind: u8,
+    pub digest: &'a [u8],
+}
+
+/// What kind 4 holds.
+#[derive(Clone, Copy, Debug)]
+struct Summaries<'a> {
+    tcb: &'a [u8],
+    all: &'a [u8],
+}
+
+/// An accepted image.
+#[derive(Clone, Debug)]
+pub struct Image<'a> {
+    pub ct_exponent: u8,
+    pub hash_number: u8,
+    pub signature_number: u8,
+    chains: [Option<Chain<'a>>; MAX_CHAINS],
+    /// The kind 3 records, heads included: all of one size and next to one another.
+    measurements: &'a [u8],
+    summaries: Option<Summaries<'a>>,
+}
+
+/// The records of an image that have not been read yet.
+struct Records<'a> {
+    rest: &'a [u8],
+}
+
+impl<'a> Records<'a> {
+    /// The kind and body of the next record, or `None` at the end.
+    #[inline]
+    fn next(&mut self) -> Result<Option<(u8, &'a [u8])>, Number> {
+        match self.rest {
+            [] => Ok(None),
+            &[high, low, kind, ref rest @ ..] => {
+                let length = usize::from(u16::from_be_bytes([high, low]));
+                let (body, rest) = rest.split_at_checked(length).ok_or(Number::ImageCut)?;
+                self.rest = rest;
+                Ok(Some((kind, body)))
+            }
+            _ => Err(Number::ImageCut),
+        }
+    }
+}
+
+impl<'a> Image<'a> {
+    /// Reads an image. The walk stops at the first fault.
+    pub fn read(image: &'a [u8]) -> Result<Image<'a>, Number> {
+        let mut records = match image {
+            [] => return Err(Number::ImageSize),
+            _ if image.len() > MAX_IMAGE => return Err(Number::ImageSize),
+            [1, rest @ ..] => Records { rest },
+            _ => return Err(Number::ImageVersion),
+        };
+
+        let Some((1, body)) = records.next()? else {
+            return Err(Number::RecordSequence);
+        };
+        let &[ct_exponent, hash_number, signature_number] = body else {
+            return Err(Number::BodyLength);
+        };
+        if ct_exponent > 31
+            || usize::from(hash_number) >= HASH_SIZES.len()
+            || usize::from(signature_number) >= SIGNATURE_SIZES.len()
+        {
+            return Err(Number::FieldRange);
+        }
+        let h = HASH_SIZES[usize::from(hash_number)];
+
+        let mut record = records.next()?;
+        let mut chains = [None; MAX_CHAINS];
+        let mut chain_count = 0;
+        let mut next_slot = 0;
+        while let Some((2, body)) = record {
+            if chain_count == MAX_CHAINS {
+                return Err(Number::TooManyRecords);
+            }
+            if body.len() < 1 + h + 5 + h || body.len() > 1 + h + MAX_CHAIN {
+                return Err(Number::BodyLength);
+            }
+            let slot = Slot::new(body[0]).ok_or(Number::FieldRange)?;
+            if slot.number() < next_slot || (chain_count == 0 && slot.number() != 0) {
+                return Err(Number::FieldRange);
+            }
+            let (digest, bytes) = body[1..].split_at(h);
+            if usize::from(u16::from_le_bytes([bytes[0], bytes[1]])) != bytes.len() {
+                return Err(Number::ChainLength);
+            }
+            chains[usize::from(slot.number())] = Some(Chain { digest, bytes });
+            chain_count += 1;
+            next_slot = slot.number() + 1;
+            record = records.next()?;
+        }
+        if chain_count == 0 {
+            return Err(Number::RecordSequence);
+        }
+
+        let size = 5 + h;
+        let mut measurement_count = 0;
+        let mut last_index = 0;
+        let mut after = records.rest;
+        while let Some((3, body)) = record {
+            if measurement_count == MAX_MEASUREMENTS {
+                return Err(Number::TooManyRecords);
+            }
+            if body.len() != 2 + h {
+                return Err(Number::BodyLength);
+            }
+            let index = Index::new(body[0]).ok_or(Number::FieldRange)?;
+            if body[1] > 3 || index.number() <= last_index {
+                return Err(Number::FieldRange);
+            }
+            measurement_count += 1;
+            last_index = index.number();
+            after = records.rest;
+            record = records.next()?;
+        }
+        let end = image.len() - after.len();
+        let measurements = &image[end - measurement_count * size..end];
+
+        let summaries = match (record, measurement_count) {
+            (None, 0) => None,
+            (Some((4, body)), 1..) => {
+                if body.len() != 2 * h {
+                    return Err(Number::BodyLength);
+                }
+                if records.next()?.is_some() {
+                    return Err(Number::RecordSequence);
+                }
+                let (tcb, all) = body.split_at(h);
+                Some(Summaries { tcb, all })
+            }
+            _ => return Err(Number::RecordSequence),
+        };
+
+        Ok(Image { ct_exponent, hash_number, signature_number, chains, measurements, summaries })
+    }
+
+    /// H.
+    pub fn hash_size(&self) -> usize {
+        HASH_SIZES[usize::from(self.hash_number)]
+    }
+
+    /// S.
+    pub fn signature_size(&self) -> usize {
+        SIGNATURE_SIZES[usize::from(self.signature_number)]
+    }
+
+    pub fn chain(&self, slot: Slot) -> Option<Chain<'a>> {
+        self.chains[usize::from(slot.number())]
+    }
+
+    /// The filled slots and their chains, by rising slot.
+    pub fn chains(&self) -> impl Iterator<Item = (Slot, Chain<'a>)> + '_ {
+        (0..).zip(&self.chains).filter_map(|(number, chain)| chain.map(|chain| (Slot(number), chain)))
+    }
+
+    pub fn measurements(&self) -> impl ExactSizeIterator<Item = Measurement<'a>> + 'a {
+        self.measurements.chunks_exact(5 + self.hash_size()).map(|record| Measurement {
+            index: Index(record[3]),
+            kind: record[4],
+            digest: &record[5..],
+        })
+    }
+
+    pub fn has_measurements(&self) -> bool {
+        !self.measurements.is_empty()
+    }
+
+    fn measurement(&self, index: Index) -> Option<Measurement<'a>> {
+        self.measurements().find(|measurement| measurement.index == index)
+    }
+
+    fn slot_mask(&self) -> u8 {
+        self.chains().fold(0, |mask, (slot, _)| mask | 1 << slot.number())
+    }
+
+    /// A slot given by a whole byte, with its chain, if it is filled.
+    fn filled(&self, number: u8) -> Option<(Slot, Chain<'a>)> {
+        let slot = Slot::new(number)?;
+        Some((slot, self.chain(slot)?))
+    }
+}
+
+// ---------------------------------------------------------------------------------------------- the state
+
+/// Which answer awaits its signature.
+#[derive(Clone, Copy, Debug, PartialEq, Eq)]
+enum Signed {
+    Challenge,
+    Measurements,
+}
+
+#[derive(Clone, Copy, Debug)]
+struct Awaited {
+    which: Signed,
+    length: usize,
+}
+
+#[derive(Clone, Copy, Debug)]
+enum Phase {
+    Start,
+    Version,
+    Capabilities,
+    Negotiated,
+}
+
+/// A state within its bounds.
+#[derive(Clone, Copy, Debug)]
+struct State {
+    phase: Phase,
+    peer_size: u32,
+    selected: bool,
+    a: usize,
+    b: usize,
+    m: usize,
+    awaited: Option<Awaited>,
+}
+
+impl State {
+    /// Takes the host's words, unless they are outside their bounds.
+    fn load(words: &[u32], image: &Image) -> Result<State, Number> {
+        Self::from_words(words, image).ok_or(Number::StateBounds)
+    }
+
+    fn from_words(words: &[u32], image: &Image) -> Option<State> {
+        let &[phase, peer_size, selection, a, b, m, awaited, length] = words else {
+            return None;
+        };
+        let (a, b, m) = region_counts(a, b, m)?;
+        let (phase, exact_a) = match phase {
+            0 => (Phase::Start, Some(0)),
+            1 => (Phase::Version, Some(12)),
+            2 => (Phase::Capabilities, Some(52)),
+            3 => (Phase::Negotiated, None),
+            _ => return None,
+        };
+        if exact_a.is_some_and(|exact| (a, b, m) != (exact, 0, 0)) {
+            return None;
+        }
+        if matches!(phase, Phase::Capabilities | Phase::Negotiated) && peer_size < MIN_PEER_SIZE {
+            return None;
+        }
+        let selected = match selection {
+            0 => false,
+            1 if matches!(phase, Phase::Negotiated) && image.has_measurements() => true,
+            _ => return None,
+        };
+        let awaited = match (which_signed(awaited)?, phase) {
+            (None, _) => None,
+            (Some(which), Phase::Negotiated) => {
+                let length = usize::try_from(length).ok()?;
+                if !(4 + image.signature_size()..=MAX_MESSAGE).contains(&length) {
+                    return None;
+                }
+                Some(Awaited { which, length })
+            }
+            (Some(_), _) => return None,
+        };
+        Some(State { phase, peer_size, selected, a, b, m, awaited })
+    }
+
+    /// Hands the state back to the host.
+    fn store(&self, words: &mut [u32]) {
+        let phase = match self.phase {
+            Phase::Start => 0,
+            Phase::Version => 1,
+            Phase::Capabilities => 2,
+            Phase::Negotiated => 3,
+        };
+        let (awaited, length) = match self.awaited {
+            None => (0, 0),
+            Some(Awaited { which: Signed::Challenge, length }) => (1, length),
+            Some(Awaited { which: Signed::Measurements, length }) => (2, length),
+        };
+        words.copy_from_slice(&[
+            phase,
+            self.peer_size,
+            u32::from(self.selected),
+            self.a as u32,
+            self.b as u32,
+            self.m as u32,
+            awaited,
+            length as u32,
+        ]);
+    }
+}
+
+/// The three counts, unless one is over its region's room.
+fn region_counts(a: u32, b: u32, m: u32) -> Option<(usize, usize, usize)> {
+    let within = |count: u32, room: usize| usize::try_from(count).ok().filter(|&count| count <= room);
+    Some((within(a, A_ROOM)?, within(b, B_ROOM)?, within(m, M_ROOM)?))
+}
+
+/// The state's word for what is awaited: `None` if it means nothing.
+fn which_signed(word: u32) -> Option<Option<Signed>> {
+    match word {
+        0 => Some(None),
+        1 => Some(Some(Signed::Challenge)),
+        2 => Some(Some(Signed::Measurements)),
+        _ => None,
+    }
+}
+
+// ------------------------------------------------------------------------------------------- the messages
+
+/// Why a request is answered by an ERROR.
+#[derive(Clone, Copy, Debug, PartialEq, Eq)]
+enum Refusal {
+    InvalidRequest,
+    Unexpected,
+    UnexpectedWhileAwaiting,
+    Unspecified,
+    Unsupported(u8),
+    ResponseTooLarge(u32),
+    RequestTooLarge,
+    VersionMismatch,
+}
+
+impl Refusal {
+    /// Writes the ERROR and gives its length.
+    fn write(self, phase: Phase, answer: &mut [u8]) -> usize {
+        let version = match phase {
+            Phase::Start | Phase::Version => 0x10,
+            Phase::Capabilities | Phase::Negotiated => 0x12,
+        };
+        let (code, data) = match self {
+            Refusal::InvalidRequest => (0x01, 0),
+            Refusal::UnexpectedWhileAwaiting => (0x03, 0),
+            Refusal::Unexpected => (0x04, 0),
+            Refusal::Unspecified => (0x05, 0),
+            Refusal::Unsupported(code) => (0x07, code),
+            Refusal::ResponseTooLarge(_) => (0x0D, 0),
+            Refusal::RequestTooLarge => (0x0E, 0),
+            Refusal::VersionMismatch => (0x41, 0),
+        };
+        let mut out = Writer::new(answer);
+        out.put(&[version, 0x7F, code, data]);
+        if let Refusal::ResponseTooLarge(size) = self {
+            out.put(&size.to_le_bytes());
+        }
+        out.at
+    }
+}
+
+/// Writes one part after another at the start of a buffer.
+struct Writer<'a> {
+    buffer: &'a mut [u8],
+    at: usize,
+}
+
+impl<'a> Writer<'a> {
+    fn new(buffer: &'a mut [u8]) -> Self {
+        Writer { buffer, at: 0 }
+    }
+
+    #[inline]
+    fn put(&mut self, bytes: &[u8]) {
+        self.buffer[self.at..self.at + bytes.len()].copy_from_slice(bytes);
+        self.at += bytes.len();
+    }
+
+    fn zeros(&mut self, count: usize) {
+        self.buffer[self.at..self.at + count].fill(0);
+        self.at += count;
+    }
+}
+
+fn u16_at(bytes: &[u8], at: usize) -> u16 {
+    u16::from_le_bytes([bytes[at], bytes[at + 1]])
+}
+
+fn u32_at(bytes: &[u8], at: usize) -> u32 {
+    u32::from_le_bytes([bytes[at], bytes[at + 1], bytes[at + 2], bytes[at + 3]])
+}
+
+/// The regions of the transcript.
+#[derive(Clone, Copy)]
+enum Region {
+    A,
+    B,
+    M,
+}
+
+impl Region {
+    fn start(self) -> usize {
+        match self {
+            Region::A => 0,
+            Region::B => B_START,
+            Region::M => M_START,
+        }
+    }
+}
+
+/// One request being answered: the buffers and everything that has been found in order so far.
+struct Exchange<'a> {
+    image: &'a Image<'a>,
+    state: State,
+    transcript: &'a mut [u8],
+    answer: &'a mut [u8],
+    request: &'a [u8],
+    nonce: &'a [u8; NONCE],
+}
+
+/// What an accepted request leaves.
+struct Accepted {
+    state: State,
+    length: usize,
+}
+
+type Served = Result<Accepted, Refusal>;
+
+impl<'a> Exchange<'a> {
+    fn serve(self) -> Served {
+        let request = self.request;
+        let &[version, code, ..] = request else {
+            return Err(Refusal::InvalidRequest);
+        };
+        if request.len() < 4 {
+            return Err(Refusal::InvalidRequest);
+        }
+        if request.len() > MAX_MESSAGE {
+            return Err(Refusal::RequestTooLarge);
+        }
+        if self.state.awaited.is_some() && code != 0x84 {
+            return Err(Refusal::UnexpectedWhileAwaiting);
+        }
+        match code {
+            0x81 | 0x82 | 0x83 | 0x84 | 0xE1 | 0xE3 => {}
+            0xE0 if self.image.has_measurements() => {}
+            _ => return Err(Refusal::Unsupported(code)),
+        }
+        if version != if code == 0x84 { 0x10 } else { 0x12 } {
+            return Err(Refusal::VersionMismatch);
+        }
+        match (code, self.state.phase) {
+            (0x84, _) => self.version(),
+            (0xE1, Phase::Version) => self.capabilities(),
+            (0xE3, Phase::Capabilities) => self.algorithms(),
+            (0x81, Phase::Negotiated) => self.digests(),
+            (0x82, Phase::Negotiated) => self.certificate(),
+            (0x83, Phase::Negotiated) => self.challenge(),
+            (0xE0, Phase::Negotiated) if self.state.selected => self.measurements(),
+            _ => Err(Refusal::Unexpected),
+        }
+    }
+
+    /// The request's layout, if all of it is there.
+    fn layout(&self, length: usize) -> Result<&'a [u8], Refusal> {
+        self.request.get(..length).ok_or(Refusal::InvalidRequest)
+    }
+
+    /// Step 8.
+    fn fits_peer(&self, length: usize) -> Result<(), Refusal> {
+        match u32::try_from(length) {
+            Ok(length) if length <= self.state.peer_size => Ok(()),
+            _ => Err(Refusal::ResponseTooLarge(length as u32)),
+        }
+    }
+
+    /// Step 9.
+    fn fits_region(&self, region: Region, length: usize) -> Result<(), Refusal> {
+        let (used, room) = match region {
+            Region::A => (self.state.a, A_ROOM),
+            Region::B => (self.state.b, B_ROOM),
+            Region::M => (self.state.m, M_ROOM),
+        };
+        if used + length <= room {
+            Ok(())
+        } else {
+            Err(Refusal::Unspecified)
+        }
+    }
+
+    /// Appends an accepted request's layout and its written answer, signature left off, emptying what is to be
+    /// emptied first.
+    fn append(&mut self, region: Region, request: &[u8], answer_length: usize) {
+        let state = &mut self.state;
+        let used = match region {
+            Region::A => {
+                (state.b, state.m) = (0, 0);
+                &mut state.a
+            }
+            Region::B => {
+                state.m = 0;
+                &mut state.b
+            }
+            Region::M => {
+                state.b = 0;
+                &mut state.m
+            }
+        };
+        let from = region.start() + *used;
+        *used += request.len() + answer_length;
+        let mut out = Writer::new(&mut self.transcript[from..]);
+        out.put(request);
+        out.put(&self.answer[..answer_length]);
+    }
+
+    fn version(mut self) -> Served {
+        let request = self.layout(4)?;
+        self.state = State { phase: Phase::Version, peer_size: 0, selected: false, a: 0, b: 0, m: 0, awaited: None };
+        let mut out = Writer::new(self.answer);
+        out.put(&[0x10, 0x04, 0, 0, 0, 1, 0x00, 0x12]);
+        let length = out.at;
+        self.append(Region::A, request, length);
+        Ok(Accepted { state: self.state, length })
+    }
+
+    fn capabilities(mut self) -> Served {
+        let request = self.layout(20)?;
+        let (peer_size, peer_message) = (u32_at(request, 12), u32_at(request, 16));
+        if peer_size < MIN_PEER_SIZE || peer_message < peer_size {
+            return Err(Refusal::InvalidRequest);
+        }
+        let flags: u32 = if self.image.has_measurements() { 0x16 } else { 0x06 };
+        let size = (MAX_MESSAGE as u32).to_le_bytes();
+        let mut out = Writer::new(self.answer);
+        out.put(&[0x12, 0x61, 0, 0, 0, self.image.ct_exponent, 0, 0]);
+        out.put(&flags.to_le_bytes());
+        out.put(&size);
+        out.put(&size);
+        let length = out.at;
+        self.append(Region::A, request, length);
+        self.state.phase = Phase::Capabilities;
+        self.state.peer_size = peer_size;
+        Ok(Accepted { state: self.state, length })
+    }
+
+    fn algorithms(mut self) -> Served {
+        let head = self.layout(32)?;
+        let length = usize::from(u16_at(head, 4));
+        if !(32..=128).contains(&length) {
+            return Err(Refusal::InvalidRequest);
+        }
+        let request = self.layout(length)?;
+        let extended = 4 * (usize::from(head[28]) + usize::from(head[29]));
+        let structures = request.get(32 + extended..).ok_or(Refusal::InvalidRequest)?;
+        check_structures(structures, head[2]).ok_or(Refusal::InvalidRequest)?;
+        let signature_bit = 1u32 << self.image.signature_number;
+        let hash_bit = 1u32 << self.image.hash_number;
+        if u32_at(head, 8) & signature_bit == 0 || u32_at(head, 12) & hash_bit == 0 {
+            return Err(Refusal::InvalidRequest);
+        }
+
+        let selected = self.image.has_measurements() && head[6] & 1 != 0;
+        let measurement_hash = if selected { 1u32 << (self.image.hash_number + 1) } else { 0 };
+        let mut out = Writer::new(self.answer);
+        out.put(&[0x12, 0x63, 0, 0, 36, 0, u8::from(selected), 0]);
+        out.put(&measurement_hash.to_le_bytes());
+        out.put(&signature_bit.to_le_bytes());
+        out.put(&hash_bit.to_le_bytes());
+        out.zeros(16);
+        let length = out.at;
+        self.append(Region::A, request, length);
+        self.state.phase = Phase::Negotiated;
+        self.state.selected = selected;
+        Ok(Accepted { state: self.state, length })
+    }
+
+    fn digests(mut self) -> Served {
+        let request = self.layout(4)?;
+        let length = 4 + self.image.hash_size() * self.image.chains().count();
+        self.fits_peer(length)?;
+        self.fits_region(Region::B, request.len() + length)?;
+        let mut out = Writer::new(self.answer);
+        out.put(&[0x12, 0x01, 0, self.image.slot_mask()]);
+        for (_, chain) in self.image.chains() {
+            out.put(chain.digest);
+        }
+        self.append(Region::B, request, length);
+        Ok(Accepted { state: self.state, length })
+    }
+
+    fn certificate(mut self) -> Served {
+        let request = self.layout(8)?;
+        let (slot, chain) = self.image.filled(request[2] & 0x0F).ok_or(Refusal::InvalidRequest)?;
+        let offset = usize::from(u16_at(request, 4));
+        let asked = usize::from(u16_at(request, 6));
+        if offset >= chain.bytes.len() || asked == 0 {
+            return Err(Refusal::InvalidRequest);
+        }
+        let rest = &chain.bytes[offset..];
+        let peer_room = usize::try_from(self.state.peer_size - 8).unwrap_or(usize::MAX);
+        let portion = asked.min(rest.len()).min(peer_room).min(MAX_PORTION);
+        let remainder = rest.len() - portion;
+        let length = 8 + portion;
+        self.fits_peer(length)?;
+        self.fits_region(Region::B, request.len() + length)?;
+        let mut out = Writer::new(self.answer);
+        out.put(&[0x12, 0x02, slot.number(), 0]);
+        out.put(&(portion as u16).to_le_bytes());
+        out.put(&(remainder as u16).to_le_bytes());
+        out.put(&rest[..portion]);
+        self.append(Region::B, request, length);
+        Ok(Accepted { state: self.state, length })
+    }
+
+    fn challenge(mut self) -> Served {
+        let request = self.layout(36)?;
+        let (slot, chain) = self.image.filled(request[2]).ok_or(Refusal::InvalidRequest)?;
+        let summary: &[u8] = match (request[3], self.image.summaries) {
+            (0, _) => &[],
+            (1, Some(summaries)) if self.state.selected => summaries.tcb,
+            (0xFF, Some(summaries)) if self.state.selected => summaries.all,
+            _ => return Err(Refusal::InvalidRequest),
+        };
+        let unsigned = 4 + chain.digest.len() + NONCE + summary.len() + 2;
+        let length = unsigned + self.image.signature_size();
+        self.fits_peer(length)?;
+        self.fits_region(Region::B, request.len() + unsigned)?;
+        let mut out = Writer::new(self.answer);
+        out.put(&[0x12, 0x03, slot.number(), self.image.slot_mask()]);
+        out.put(chain.digest);
+        out.put(self.nonce);
+        out.put(summary);
+        out.put(&[0, 0]);
+        out.zeros(self.image.signature_size());
+        self.append(Region::B, request, unsigned);
+        self.state.awaited = Some(Awaited { which: Signed::Challenge, length });
+        Ok(Accepted { state: self.state, length })
+    }
+
+    fn measurements(mut self) -> Served {
+        let signed = self.request[2] & 1 != 0;
+        let request = self.layout(if signed { 37 } else { 4 })?;
+        let asked = request[3];
+        let (one, blocks) = match asked {
+            0 => (None, 0),
+            0xFF => (None, self.image.measurements().len()),
+            number => {
+                let found = Index::new(number).and_then(|index| self.image.measurement(index));
+                (Some(found.ok_or(Refusal::InvalidRequest)?), 1)
+            }
+        };
+        let slot = match request.get(36) {
+            None => None,
+            Some(byte) => Some(self.image.filled(byte & 0x0F).ok_or(Refusal::InvalidRequest)?.0),
+        };
+
+        let h = self.image.hash_size();
+        let record = blocks * (7 + h);
+        let unsigned = 8 + record + NONCE + 2;
+        let signature = if signed { self.image.signature_size() } else { 0 };
+        let length = unsigned + signature;
+        self.fits_peer(length)?;
+        self.fits_region(Region::M, request.len() + unsigned)?;
+
+        let count = if asked == 0 { self.image.measurements().len() as u8 } else { 0 };
+        let [record_0, record_1, record_2, _] = (record as u32).to_le_bytes();
+        let mut out = Writer::new(self.answer);
+        out.put(&[0x12, 0x60, count, slot.map_or(0, Slot::number)]);
+        out.put(&[blocks as u8, record_0, record_1, record_2]);
+        let mut block = |measurement: Measurement| {
+            let ([size_0, size_1], [h_0, h_1]) = ((3 + h as u16).to_le_bytes(), (h as u16).to_le_bytes());
+            out.put(&[measurement.index.number(), 1, size_0, size_1, measurement.kind, h_0, h_1]);
+            out.put(measurement.digest);
+        };
+        match one {
+            Some(measurement) => block(measurement),
+            None if asked == 0xFF => self.image.measurements().for_each(block),
+            None => {}
+        }
+        out.put(self.nonce);
+        out.put(&[0, 0]);
+        out.zeros(signature);
+        self.append(Region::M, request, unsigned);
+        if signed {
+            self.state.awaited = Some(Awaited { which: Signed::Measurements, length });
+        }
+        Ok(Accepted { state: self.state, length })
+    }
+}
+
+/// Whether the algorithm structures of NEGOTIATE_ALGORITHMS are `count` in number, in order, and fill `bytes`.
+fn check_structures(mut bytes: &[u8], count: u8) -> Option<()> {
+    let mut least_type = 2;
+    for _ in 0..count {
+        let &[kind, sizes, _, _, ref rest @ ..] = bytes else {
+            return None;
+        };
+        if kind < least_type || kind > 5 || sizes >> 4 != 2 {
+            return None;
+        }
+        least_type = kind + 1;
+        bytes = rest.get(4 * usize::from(sizes & 0x0F)..)?;
+    }
+    bytes.is_empty().then_some(())
+}
+
+// ---------------------------------------------------------------------------------------------- the calls
+
+fn check_buffers(transcript: &[u8], answer: &[u8]) -> Result<(), Number> {
+    if answer.len() < MAX_MESSAGE {
+        return Err(Number::AnswerBuffer);
+    }
+    if transcript.len() < TRANSCRIPT {
+        return Err(Number::TranscriptBuffer);
+    }
+    Ok(())
+}
+
+/// A call's outcome as the host sees it: the number in the high half, or the answer's length.
+fn outcome(result: Result<usize, Number>) -> u32 {
+    match result {
+        Ok(length) => length as u32,
+        Err(number) => (number as u32) << 16,
+    }
+}
+
+/// Reads an image: 0 if it is accepted.
+#[inline(never)]
+pub fn read_image(image: &[u8]) -> u32 {
+    outcome(Image::read(image).map(|_| 0))
+}
+
+/// Answers a request.
+#[inline(never)]
+pub fn respond(
+    image: &[u8],
+    state: &mut [u32],
+    transcript: &mut [u8],
+    answer: &mut [u8],
+    request: &[u8],
+    nonce: &[u8],
+) -> u32 {
+    outcome(try_respond(image, state, transcript, answer, request, nonce))
+}
+
+fn try_respond(
+    image: &[u8],
+    words: &mut [u32],
+    transcript: &mut [u8],
+    answer: &mut [u8],
+    request: &[u8],
+    nonce: &[u8],
+) -> Result<usize, Number> {
+    let image = Image::read(image)?;
+    check_buffers(transcript, answer)?;
+    let nonce = nonce.try_into().map_err(|_| Number::NonceLength)?;
+    let state = State::load(words, &image)?;
+    let exchange = Exchange { image: &image, state, transcript, answer: &mut *answer, request, nonce };
+    match exchange.serve() {
+        Ok(accepted) => {
+            accepted.state.store(words);
+            Ok(accepted.length)
+        }
+        Err(refusal) => Ok(refusal.write(state.phase, answer)),
+    }
+}
+
+/// Finishes the awaited answer with the chip's signature, or with its failure.
+#[inline(never)]
+pub fn finish(
+    image: &[u8],
+    state: &mut [u32],
+    transcript: &mut [u8],
+    answer: &mut [u8],
+    chip_ok: bool,
+    signature: &[u8],
+) -> u32 {
+    outcome(try_finish(image, state, transcript, answer, chip_ok, signature))
+}
+
+fn try_finish(
+    image: &[u8],
+    words: &mut [u32],
+    transcript: &mut [u8],
+    answer: &mut [u8],
+    chip_ok: bool,
+    signature: &[u8],
+) -> Result<usize, Number> {
+    let image = Image::read(image)?;
+    check_buffers(transcript, answer)?;
+    let mut state = State::load(words, &image)?;
+    let awaited = state.awaited.take().ok_or(Number::NothingAwaited)?;
+    if chip_ok && signature.len() != image.signature_size() {
+        return Err(Number::SignatureLength);
+    }
+    match awaited.which {
+        Signed::Challenge => state.b = 0,
+        Signed::Measurements => state.m = 0,
+    }
+    state.store(words);
+    if chip_ok {
+        answer[awaited.length - signature.len()..awaited.length].copy_from_slice(signature);
+        Ok(awaited.length)
+    } else {
+        Ok(Refusal::Unspecified.write(Phase::Negotiated, answer))
+    }
+}
+
+/// Shows what is to be signed: the prefix, and where the two parts to hash lie in the transcript buffer (start
+/// and length of A, start and length of B or M).
+#[inline(never)]
+pub fn to_sign(state: &[u32], prefix: &mut [u8], parts: &mut [u32]) -> u32 {
+    outcome(try_to_sign(state, prefix, parts))
+}
+
+fn try_to_sign(words: &[u32], prefix: &mut [u8], parts: &mut [u32]) -> Result<usize, Number> {
+    if prefix.len() < PREFIX || parts.len() < 4 {
+        return Err(Number::AnswerBuffer);
+    }
+    let &[phase, _, _, a, b, m, awaited, _] = words else {
+        return Err(Number::StateBounds);
+    };
+    region_counts(a, b, m).ok_or(Number::StateBounds)?;
+    let awaited = which_signed(awaited).ok_or(Number::StateBounds)?;
+    if phase > 3 || (awaited.is_some() && phase != 3) {
+        return Err(Number::StateBounds);
+    }
+    let (context, start, used): (&[u8], usize, u32) = match awaited {
+        None => return Err(Number::NothingAwaited),
+        Some(Signed::Challenge) => (b"responder-challenge_auth signing", B_START, b),
+        Some(Signed::Measurements) => (b"responder-measurements signing", M_START, m),
+    };
+    let mut out = Writer::new(prefix);
+    for _ in 0..4 {
+        out.put(b"dmtf-spdm-v1.2.*");
+    }
+    out.zeros(PREFIX - out.at - context.len());
+    out.put(context);
+    parts[..4].copy_from_slice(&[0, a, start as u32, used]);
+    Ok(PREFIX)
+}

@@ -1,0 +1,1198 @@
+//! Random runs of calls, through the plain responder and through the C interface.
+//!
+//! After each call everything is compared: the result, every byte of the answer and transcript buffers, the words
+//! of the state, and what `spdm_to_sign` then shows. Every buffer lent to the library lies between guard cells.
+//!
+//! `SPDM_SEED` and `SPDM_CALLS` choose other runs; the same two give the same runs again. With `SPDM_TRACE` set,
+//! each call is printed before it is made, so that the last line names a call that did not return.
+
+use std::fmt::Write as _;
+use std::time::Instant;
+
+use spdm_check::{ffi, plain};
+
+const DEFAULT_SEED: u64 = 0x5350_444D_0001;
+const DEFAULT_CALLS: u64 = 200_000;
+
+// ------------------------------------------------------------------------------------- the random numbers
+
+/// SplitMix64.
+struct Rng(u64);
+
+impl Rng {
+    fn next(&mut self) -> u64 {
+        self.0 = self.0.wrapping_add(0x9E37_79B9_7F4A_7C15);
+        let mut z = self.0;
+        z = (z ^ (z >> 30)).wrapping_mul(0xBF58_476D_1CE4_E5B9);
+        z = (z ^ (z >> 27)).wrapping_mul(0x94D0_49BB_1331_11EB);
+        z ^ (z >> 31)
+    }
+
+    /// Below `n`, which is not 0.
+    fn below(&mut self, n: usize) -> usize {
+        (self.next() % n as u64) as usize
+    }
+
+    /// From `low` to `high`, both included.
+    fn range(&mut self, low: usize, high: usize) -> usize {
+        low + self.below(high - low + 1)
+    }
+
+    fn one_in(&mut self, n: usize) -> bool {
+        self.below(n) == 0
+    }
+
+    fn byte(&mut self) -> u8 {
+        self.next() as u8
+    }
+
+    fn word(&mut self) -> u32 {
+        self.next() as u32
+    }
+
+    fn pick<T: Copy>(&mut self, from: &[T]) -> T {
+        from[self.below(from.len())]
+    }
+
+    fn fill(&mut self, bytes: &mut [u8]) {
+        for chunk in bytes.chunks_mut(8) {
+            let random = self.next().to_le_bytes();
+            chunk.copy_from_slice(&random[..chunk.len()]);
+        }
+    }
+
+    fn bytes(&mut self, count: usize) -> Vec<u8> {
+        let mut bytes = vec![0; count];
+        self.fill(&mut bytes);
+        bytes
+    }
+}
+
+// ------------------------------------------------------------------------------------------ guarded buffers
+
+const GUARD: usize = 64;
+
+/// A buffer between guard cells, at an odd place as often as not.
+struct Guarded<T> {
+    cells: Vec<T>,
+    front: usize,
+    len: usize,
+    guard: T,
+}
+
+impl<T: Copy + PartialEq> Guarded<T> {
+    fn new(rng: &mut Rng, contents: &[T], guard: T) -> Self {
+        let front = GUARD + rng.below(16);
+        let mut cells = vec![guard; front + contents.len() + GUARD];
+        cells[front..front + contents.len()].copy_from_slice(contents);
+        Guarded { cells, front, len: contents.len(), guard }
+    }
+
+    /// The buffer. If it is empty, it is as often as not a pointer that must not be followed.
+    fn get(&self) -> &[T] {
+        if self.len == 0 && self.front.is_multiple_of(2) {
+            return &[];
+        }
+        &self.cells[self.front..self.front + self.len]
+    }
+
+    fn get_mut(&mut self) -> &mut [T] {
+        if self.len == 0 && self.front.is_multiple_of(2) {
+            return &mut [];
+        }
+        &mut self.cells[self.front..self.front + self.len]
+    }
+
+    fn intact(&self) -> bool {
+        let (front, rest) = self.cells.split_at(self.front);
+        front.iter().chain(&rest[self.len..]).all(|cell| *cell == self.guard)
+    }
+}
+
+/// A buffer lent to both responders: to each its own, with the same contents.
+struct Both<T> {
+    plain: Vec<T>,
+    library: Guarded<T>,
+}
+
+impl<T: Copy + PartialEq + std::fmt::Debug> Both<T> {
+    fn new(rng: &mut Rng, contents: &[T], guard: T) -> Self {
+        Both { plain: contents.to_vec(), library: Guarded::new(rng, contents, guard) }
+    }
+
+    /// Says what differs, if anything does.
+    fn compare(&self, name: &str) -> Result<(), String> {
+        if !self.library.intact() {
+            return Err(format!("the library wrote outside the {name}"));
+        }
+        if self.plain[..] == *self.library.get() {
+            return Ok(());
+        }
+        let different: Vec<usize> =
+            (0..self.plain.len()).filter(|&at| self.plain[at] != self.library.get()[at]).collect();
+        let at = different[0];
+        Err(format!(
+            "{name}: {} places differ, the first at {at}: plain {:?}, library {:?}",
+            different.len(),
+            self.plain[at],
+            self.library.get()[at]
+        ))
+    }
+}
+
+// --------------------------------------------------------------------------------------------- the images
+
+const H: [usize; 6] = [32, 48, 64, 32, 48, 64];
+const S: [usize; 9] = [256, 256, 384, 384, 64, 512, 512, 96, 132];
+
+/// What a valid image was made of. The generator of requests looks at it to ask for what is there.
+#[derive(Clone)]
+struct Spec {
+    hash: usize,
+    signature: usize,
+    /// Slots and lengths.
+    chains: Vec<(u8, usize)>,
+    indices: Vec<u8>,
+    records: Vec<(u8, Vec<u8>)>,
+}
+
+impl Spec {
+    fn h(&self) -> usize {
+        H[self.hash]
+    }
+
+    fn s(&self) -> usize {
+        S[self.signature]
+    }
+
+    /// The sizes of the answers that this image can give in phase 3, signature left off.
+    fn unsigned_sizes(&self) -> [usize; 6] {
+        let h = self.h();
+        [4 + h * self.chains.len(), 4 + h + 34, 4 + h + 34 + h, 42, 42 + 7 + h, 42 + (7 + h) * self.indices.len()]
+    }
+}
+
+fn rising(rng: &mut Rng, low: usize, high: usize, count: usize) -> Vec<u8> {
+    let mut all: Vec<usize> = (low..=high).collect();
+    for at in 0..count {
+        let other = rng.range(at, all.len() - 1);
+        all.swap(at, other);
+    }
+    all.truncate(count);
+    all.sort_unstable();
+    all.iter().map(|&number| number as u8).collect()
+}
+
+fn valid_spec(rng: &mut Rng) -> Spec {
+    let (hash, signature) = (rng.below(6), rng.below(9));
+    let h = H[hash];
+    let mut records = vec![(1, vec![rng.below(32) as u8, hash as u8, signature as u8])];
+
+    let slots = match rng.below(4) {
+        0 => vec![0],
+        1 => (0..8).collect(),
+        _ => {
+            let more = rng.below(8);
+            let mut slots = vec![0];
+            slots.extend(rising(rng, 1, 7, more));
+            slots
+        }
+    };
+    let big = rng.one_in(6);
+    let mut chains = Vec::new();
+    for slot in slots {
+        let length = match rng.below(8) {
+            0 => 5 + h,
+            1 if big => 4_096,
+            _ if big => rng.range(5 + h, 4_096),
+            2 => rng.range(5 + h, 1_400),
+            _ => rng.range(5 + h, 200),
+        };
+        let mut body = vec![slot];
+        body.extend(rng.bytes(h + length));
+        body[1 + h..3 + h].copy_from_slice(&(length as u16).to_le_bytes());
+        records.push((2, body));
+        chains.push((slot, length));
+    }
+
+    let count = match rng.below(6) {
+        0 => 0,
+        1 => 1,
+        2 => 32,
+        _ => rng.range(1, 32),
+    };
+    let mut indices = rising(rng, 1, 239, count);
+    if count > 0 && rng.one_in(4) {
+        indices[0] = 1;
+        let last = indices.len() - 1;
+        if last > 0 {
+            indices[last] = 239;
+        }
+    }
+    for &index in &indices {
+        let mut body = vec![index, rng.below(4) as u8];
+        body.extend(rng.bytes(h));
+        records.push((3, body));
+    }
+    if count > 0 {
+        records.push((4, rng.bytes(2 * h)));
+    }
+    Spec { hash, signature, chains, indices, records }
+}
+
+fn encode(records: &[(u8, Vec<u8>)]) -> Vec<u8> {
+    let mut image = vec![1];
+    for (kind, body) in records {
+        image.extend((body.len() as u16).to_be_bytes());
+        image.push(*kind);
+        image.extend(body);
+    }
+    image
+}
+
+/// An image with something wrong with it (or, now and then, not).
+fn damaged(rng: &mut Rng, spec: &Spec) -> Vec<u8> {
+    let mut records = spec.records.clone();
+    for _ in 0..if rng.one_in(4) { 2 } else { 1 } {
+        damage_records(rng, spec, &mut records);
+    }
+    let mut image = encode(&records);
+    if rng.one_in(2) {
+        damage_bytes(rng, &records, &mut image);
+    }
+    image
+}
+
+fn damage_records(rng: &mut Rng, spec: &Spec, records: &mut Vec<(u8, Vec<u8>)>) {
+    let h = spec.h();
+    if records.is_empty() {
+        return;
+    }
+    let at = rng.below(records.len());
+    match rng.below(14) {
+        0 => {
+            let other = rng.below(records.len());
+            records.swap(at, other);
+        }
+        1 => {
+            let copy = records[at].clone();
+            records.insert(at, copy);
+        }
+        2 => {
+            records.remove(at);
+        }
+        3 => records[at].0 = rng.pick(&[0, 1, 2, 3, 4, 5, 255]),
+        4 => {
+            let body = &mut records[at].1;
+            match rng.below(5) {
+                0 => body.push(0),
+                1 => drop(body.pop()),
+                2 => body.clear(),
+                3 => body.truncate(1),
+                _ => {
+                    let longer = rng.pick(&[3, 2 + h, 2 * h, 6 + 2 * h, 5 + 2 * h, 1 + h + 4_096, 1 + h + 4_097]);
+                    body.resize(longer, 0);
+                }
+            }
+        }
+        5 => {
+            // The first two bytes of the body: ranges and order of CTExponent, slot, index, type.
+            let body = &mut records[at].1;
+            let place = rng.below(3);
+            if place < body.len() {
+                body[place] = rng.pick(&[0, 1, 3, 4, 5, 6, 7, 8, 9, 31, 32, 33, 239, 240, 255]);
+            }
+        }
+        6 => {
+            // A chain's own length.
+            if let (2, body) = &mut records[at] {
+                if body.len() > 3 + h {
+                    let place = 1 + h + rng.below(2);
+                    body[place] ^= 1 << rng.below(8);
+                }
+            }
+        }
+        7 => {
+            // Chains up to nine, slots as they come.
+            let chains = records.iter().filter(|record| record.0 == 2).count();
+            let place = records.iter().rposition(|record| record.0 == 2).map_or(records.len(), |last| last + 1);
+            for slot in chains..rng.pick(&[8, 9, 9, 9]) {
+                let mut body = vec![slot as u8];
+                body.extend(vec![0; h]);
+                body.extend(((5 + h) as u16).to_le_bytes());
+                body.extend(vec![0; 3 + h]);
+                records.insert((place + slot - chains).min(records.len()), (2, body));
+            }
+        }
+        8 => {
+            // Measurements up to 33.
+            let place = records.iter().rposition(|record| record.0 == 3).map_or(records.len(), |last| last + 1);
+            let measurements = records.iter().filter(|record| record.0 == 3).count();
+            let last = spec.indices.last().copied().unwrap_or(0);
+            for more in measurements..33 {
+                let mut body = vec![last.wrapping_add(1 + (more - measurements) as u8), 0];
+                body.extend(vec![0; h]);
+                records.insert(place.min(records.len()), (3, body));
+            }
+        }
+        9 => records.truncate(at),
+        10 => {
+            let kind = rng.pick(&[1, 2, 3, 4, 5]);
+            let length = rng.pick(&[0, 1, 3, 2 + h, 2 * h]);
+            records.push((kind, vec![0; length]));
+        }
+        _ => {}
+    }
+}
+
+fn damage_bytes(rng: &mut Rng, records: &[(u8, Vec<u8>)], image: &mut Vec<u8>) {
+    match rng.below(12) {
+        0..=4 => {
+            for _ in 0..rng.range(1, 3) {
+                // Half of the flips hit a head or the first bytes of a body.
+                let place = if rng.one_in(2) || records.is_empty() {
+                    rng.below(image.len())
+                } else {
+                    let which = rng.below(records.len());
+                    let head: usize = 1 + records[..which].iter().map(|record| 3 + record.1.len()).sum::<usize>();
+                    (head + rng.below(6)).min(image.len() - 1)
+                };
+                image[place] ^= 1 << rng.below(8);
+            }
+        }
+        5 => image.truncate(image.len() - rng.range(1, image.len().min(8))),
+        6 => image.truncate(rng.below(image.len())),
+        7 => {
+            let extra = rng.range(1, 6);
+            image.extend(rng.bytes(extra));
+        }
+        8 => image.clear(),
+        9 => {
+            let length = rng.pick(&[36_863, 36_864, 36_865, 36_866, 40_000]);
+            image.resize(length, rng.pick(&[0, 1, 2, 255]));
+        }
+        10 => image[0] = rng.pick(&[0, 2, 129, 255]),
+        _ => {
+            let length = rng.range(1, 80);
+            *image = rng.bytes(length);
+            if rng.one_in(2) {
+                image[0] = 1;
+            }
+        }
+    }
+}
+
+// -------------------------------------------------------------------------------------------- the requests
+
+fn get_version(rng: &mut Rng) -> Vec<u8> {
+    vec![0x10, 0x84, rng.byte(), rng.byte()]
+}
+
+fn get_capabilities(rng: &mut Rng, spec: &Spec) -> Vec<u8> {
+    let mut request = rng.bytes(20);
+    request[..2].copy_from_slice(&[0x12, 0xE1]);
+    let size = match rng.below(8) {
+        0 => 42,
+        1 => rng.pick(&[43, 4_607, 4_608, 4_609, 65_535, 65_536, u32::MAX, 0x8000_0000]),
+        2 => rng.pick(&[0, 1, 7, 8, 40, 41]),
+        3 | 4 => {
+            // At an answer's size, or one beside it.
+            let size = rng.pick(&spec.unsigned_sizes()) + rng.pick(&[0, spec.s()]);
+            (size + rng.below(3)) as u32 - 1
+        }
+        5 => rng.range(42, 1_100) as u32,
+        _ => 4_608,
+    };
+    let most = match rng.below(8) {
+        0 => size.wrapping_sub(1),
+        1 => rng.word(),
+        2 => u32::MAX,
+        3 => size.wrapping_add(1),
+        _ => size,
+    };
+    request[12..16].copy_from_slice(&size.to_le_bytes());
+    request[16..20].copy_from_slice(&most.to_le_bytes());
+    request
+}
+
+fn negotiate_algorithms(rng: &mut Rng, spec: &Spec) -> Vec<u8> {
+    let mut request = rng.bytes(32);
+    request[..2].copy_from_slice(&[0x12, 0xE3]);
+    let mut structures = Vec::new();
+    let count = if rng.one_in(2) { 0 } else { rng.range(1, 4) };
+    for kind in rising(rng, 2, 5, count) {
+        let extended = if rng.one_in(3) { rng.below(5) } else { 0 };
+        structures.extend([kind, 0x20 | extended as u8, rng.byte(), rng.byte()]);
+        structures.extend(rng.bytes(4 * extended));
+    }
+    let (e1, e2) = match rng.below(4) {
+        0 => (rng.below(5), rng.below(5)),
+        1 => {
+            // As long as a request may be, or a little longer.
+            let whole: usize = rng.pick(&[128, 128, 132, 144]);
+            let room = whole.saturating_sub(32 + structures.len()) / 4;
+            let first = rng.range(0, room);
+            (first, room - first)
+        }
+        _ => (0, 0),
+    };
+    request[2] = count as u8;
+    request[28] = e1 as u8;
+    request[29] = e2 as u8;
+    let asym = rng.word() | 1 << spec.signature;
+    let hash = rng.word() | 1 << spec.hash;
+    request[8..12].copy_from_slice(&asym.to_le_bytes());
+    request[12..16].copy_from_slice(&hash.to_le_bytes());
+    if !rng.one_in(4) {
+        request[6] |= 1;
+    }
+    request.extend(rng.bytes(4 * (e1 + e2)));
+    request.extend(&structures);
+    let length = request.len() as u16;
+    request[4..6].copy_from_slice(&length.to_le_bytes());
+
+    if rng.one_in(4) {
+        // One thing wrong.
+        match rng.below(9) {
+            0 => request[2] = request[2].wrapping_add(rng.pick(&[1, 255, 4, 128])),
+            1 => {
+                let other = rng.pick(&[0, 31, 32, 36, 127, 128, 129, 132, 65_535, length + 4, length - 1, length + 1]);
+                request[4..6].copy_from_slice(&other.to_le_bytes());
+                if rng.one_in(2) {
+                    request.resize(usize::from(other.max(32)).min(200), 0);
+                }
+            }
+            2 => request[8 + spec.signature / 8] &= !(1 << (spec.signature % 8)),
+            3 => request[12] &= !(1 << spec.hash),
+            4 => request[28] = request[28].wrapping_add(rng.pick(&[1, 255, 64])),
+            5 => request[29] = request[29].wrapping_add(rng.pick(&[1, 255, 64])),
+            6 if !structures.is_empty() => {
+                let at = request.len() - structures.len();
+                request[at] = rng.pick(&[0, 1, 2, 3, 4, 5, 6, 255]);
+            }
+            7 if !structures.is_empty() => {
+                let at = request.len() - structures.len();
+                request[at + 1] ^= 1 << rng.below(8);
+            }
+            _ => drop(request.pop()),
+        }
+    }
+    request
+}
+
+fn get_digests(rng: &mut Rng) -> Vec<u8> {
+    vec![0x12, 0x81, rng.byte(), rng.byte()]
+}
+
+/// A slot number, mostly a filled one.
+fn some_slot(rng: &mut Rng, spec: &Spec) -> u8 {
+    match rng.below(10) {
+        0 => rng.below(8) as u8,
+        1 => rng.below(16) as u8,
+        _ => spec.chains[rng.below(spec.chains.len())].0,
+    }
+}
+
+fn get_certificate(rng: &mut Rng, spec: &Spec) -> Vec<u8> {
+    let slot = some_slot(rng, spec);
+    let chain = spec.chains.iter().find(|chain| chain.0 == slot).map_or(100, |chain| chain.1);
+    let offset = match rng.below(10) {
+        0 => chain - 1,
+        1 => chain,
+        2 => rng.pick(&[chain + 1, 65_535, 4_096, 4_095, 256]),
+        3 | 4 => 0,
+        _ => rng.below(chain),
+    } as u16;
+    let length: u16 = match rng.below(10) {
+        0 => 0,
+        1 => 1,
+        2 => 34,
+        3 => rng.pick(&[1_023, 1_024, 1_025, 256]),
+        4 => (chain as u16).saturating_sub(offset).wrapping_add(rng.pick(&[0, 1, 65_535])),
+        5 => rng.word() as u16,
+        6 => rng.range(1, 100) as u16,
+        _ => 65_535,
+    };
+    let mut request = vec![0x12, 0x82, slot | rng.byte() & 0xF0, rng.byte()];
+    request.extend(offset.to_le_bytes());
+    request.extend(length.to_le_bytes());
+    request
+}
+
+fn challenge(rng: &mut Rng, spec: &Spec, selected: bool) -> Vec<u8> {
+    let mut request = rng.bytes(36);
+    let slot = some_slot(rng, spec);
+    let slot = if rng.one_in(12) { slot | rng.pick(&[8, 16, 128]) } else { slot };
+    let summary = match rng.below(10) {
+        0 => rng.pick(&[2, 3, 254, 127, 128]),
+        1 => rng.byte(),
+        2 | 3 => 1,
+        4 | 5 => 0xFF,
+        _ => 0,
+    };
+    let summary = if selected || rng.one_in(4) { summary } else { 0 };
+    request[..4].copy_from_slice(&[0x12, 0x83, slot, summary]);
+    request
+}
+
+fn get_measurements(rng: &mut Rng, spec: &Spec) -> Vec<u8> {
+    let which = match rng.below(10) {
+        0 | 1 => 0,
+        2 | 3 => 0xFF,
+        4 => rng.byte(),
+        5 => rng.pick(&[1, 238, 239, 240, 254]),
+        _ if spec.indices.is_empty() => rng.byte(),
+        _ => spec.indices[rng.below(spec.indices.len())],
+    };
+    let signed = rng.one_in(2);
+    let mut request = vec![0x12, 0xE0, rng.byte() & 0xFE | u8::from(signed), which];
+    if signed || rng.one_in(4) {
+        request.extend(rng.bytes(32));
+        request.push(some_slot(rng, spec) | rng.byte() & 0xF0);
+    }
+    if signed && rng.one_in(12) {
+        request.pop();
+    }
+    request
+}
+
+/// What comes next in this phase.
+fn next_step(rng: &mut Rng, spec: &Spec, state: &[u32; 8]) -> Vec<u8> {
+    match state[0] {
+        0 => get_version(rng),
+        1 => get_capabilities(rng, spec),
+        2 => negotiate_algorithms(rng, spec),
+        _ => match rng.below(12) {
+            0 | 1 => get_digests(rng),
+            2..=5 => get_certificate(rng, spec),
+            6 | 7 => challenge(rng, spec, state[2] == 1),
+            8 if state[2] != 1 => challenge(rng, spec, false),
+            _ => get_measurements(rng, spec),
+        },
+    }
+}
+
+/// Any served request.
+fn any_step(rng: &mut Rng, spec: &Spec) -> Vec<u8> {
+    match rng.below(7) {
+        0 => get_version(rng),
+        1 => get_capabilities(rng, spec),
+        2 => negotiate_algorithms(rng, spec),
+        3 => get_digests(rng),
+        4 => get_certificate(rng, spec),
+        5 => challenge(rng, spec, true),
+        _ => get_measurements(rng, spec),
+    }
+}
+
+fn mutate(rng: &mut Rng, request: &mut Vec<u8>) {
+    match rng.below(8) {
+        0 => request[0] = rng.pick(&[0x00, 0x10, 0x11, 0x12, 0x13, 0xFF]),
+        1 => request[1] = rng.byte(),
+        2 => request.truncate(request.len() - 1),
+        3 => {
+            let length = rng.below(request.len());
+            request.truncate(length);
+        }
+        4 | 5 => {
+            for _ in 0..rng.range(1, 3) {
+                let at = rng.below(request.len());
+                request[at] ^= 1 << rng.below(8);
+            }
+        }
+        6 => {
+            let at = rng.below(request.len());
+            request[at] = rng.byte();
+        }
+        _ => {
+            let at = rng.below(request.len());
+            request.insert(at, rng.byte());
+        }
+    }
+}
+
+fn some_request(rng: &mut Rng, spec: &Spec, state: &[u32; 8]) -> Vec<u8> {
+    let mut request = match rng.below(100) {
+        0..=69 => next_step(rng, spec, state),
+        70..=73 => get_version(rng),
+        74..=82 => any_step(rng, spec),
+        83..=90 => {
+            let mut request = next_step(rng, spec, state);
+            mutate(rng, &mut request);
+            request
+        }
+        91..=93 => {
+            let mut request = any_step(rng, spec);
+            mutate(rng, &mut request);
+            request
+        }
+        94 | 95 => {
+            let code = rng.pick(&[
+                0x00, 0x01, 0x7F, 0x80, 0x85, 0x86, 0xE2, 0xE4, 0xE5, 0xE6, 0xE7, 0xE8, 0xEA, 0xFC, 0xFD, 0xFE, 0xFF,
+            ]);
+            let code = if rng.one_in(2) { code } else { rng.byte() };
+            vec![rng.pick(&[0x10, 0x12, 0x11]), code, rng.byte(), rng.byte()]
+        }
+        96 => {
+            let length = rng.below(64);
+            rng.bytes(length)
+        }
+        97 => {
+            let mut request = any_step(rng, spec);
+            request.truncate(rng.below(4));
+            request
+        }
+        _ => {
+            let mut request = any_step(rng, spec);
+            request.resize(rng.pick(&[4_607, 4_608, 4_609, 5_000]), rng.byte());
+            request
+        }
+    };
+    if rng.one_in(5) && request.len() < 4_000 {
+        let pad = rng.range(1, 40);
+        request.extend(rng.bytes(pad));
+    }
+    request
+}
+
+// --------------------------------------------------------------------------------------------- the states
+
+const NEAR: [u32; 36] = [
+    0,
+    1,
+    2,
+    3,
+    4,
+    5,
+    8,
+    11,
+    12,
+    13,
+    41,
+    42,
+    43,
+    51,
+    52,
+    53,
+    216,
+    511,
+    512,
+    513,
+    4_607,
+    4_608,
+    4_609,
+    7_679,
+    7_680,
+    7_681,
+    8_191,
+    8_192,
+    8_193,
+    16_384,
+    65_535,
+    65_536,
+    0x7FFF_FFFF,
+    0x8000_0000,
+    0xFFFF_FFFE,
+    0xFFFF_FFFF,
+];
+
+/// A state in phase 3, within its bounds, often with B and M nearly full.
+fn negotiated_state(rng: &mut Rng, spec: &Spec) -> [u32; 8] {
+    let selected = u32::from(!spec.indices.is_empty() && !rng.one_in(4));
+    let sizes = spec.unsigned_sizes();
+    let mut used = |room: usize, layouts: &[usize]| match rng.below(4) {
+        0 => 0,
+        1 => rng.range(0, room),
+        2 => room - rng.below(60),
+        // Just enough room for one of the answers, or one byte too little or too much.
+        _ => (room + 1 - rng.pick(layouts) - rng.pick(&sizes) - rng.below(3)).min(room),
+    };
+    let b = used(8_192, &[4, 36, 16]);
+    let m = used(7_680, &[4, 37]);
+    let awaited = if rng.one_in(3) { rng.range(1, 2) as u32 } else { 0 };
+    let length = match (awaited, rng.below(4)) {
+        (0, 0) => rng.word(),
+        (0, _) => 0,
+        (_, 0) => 4_608,
+        (_, 1) => (4 + spec.s()) as u32,
+        _ => rng.range(4 + spec.s(), 4_608) as u32,
+    };
+    let peer = match rng.below(4) {
+        0 => 42,
+        1 => rng.pick(&[u32::MAX, 0x8000_0000, 65_536]),
+        _ => 4_608,
+    };
+    let a = rng.range(0, 512);
+    [3, peer, selected, a as u32, b as u32, m as u32, awaited, length]
+}
+
+/// A state that a careless or a hostile host could hand in.
+fn hostile_state(rng: &mut Rng, spec: &Spec) -> [u32; 8] {
+    let mut state = match rng.below(8) {
+        0 => [(); 8].map(|()| rng.word()),
+        1 => [(); 8].map(|()| rng.pick(&NEAR)),
+        2 => [0, rng.word(), 0, 0, 0, 0, 0, rng.word()],
+        3 => [1, rng.word(), 0, 12, 0, 0, 0, 0],
+        4 => [2, rng.pick(&[42, 43, 4_608, u32::MAX]), 0, 52, 0, 0, 0, 0],
+        _ => negotiated_state(rng, spec),
+    };
+    for _ in 0..rng.below(3) {
+        let at = rng.below(8);
+        state[at] = match rng.below(4) {
+            0 => rng.word(),
+            1 => state[at].wrapping_add(rng.pick(&[1, u32::MAX, 0x1_0000, 0x100, 0x8000_0000])),
+            2 => (spec.s() + rng.range(2, 6)) as u32,
+            _ => rng.pick(&NEAR),
+        };
+    }
+    state
+}
+
+// ---------------------------------------------------------------------------------------------- the calls
+
+enum Call {
+    Respond { request: Vec<u8>, nonce: Vec<u8> },
+    Finish { chip_ok: u32, signature: Vec<u8> },
+}
+
+/// All that goes into one call besides the transcript.
+struct Setting {
+    image: Vec<u8>,
+    state: Vec<u32>,
+    transcript_len: usize,
+    answer: Vec<u8>,
+    call: Call,
+}
+
+fn hex(bytes: &[u8]) -> String {
+    let mut text = String::with_capacity(2 * bytes.len());
+    for byte in bytes {
+        write!(text, "{byte:02x}").expect("a string takes all");
+    }
+    if text.is_empty() {
+        text.push('-');
+    }
+    text
+}
+
+impl Setting {
+    fn describe(&self) -> String {
+        let call = match &self.call {
+            Call::Respond { request, nonce } => format!("respond\n  request {}\n  nonce {}", hex(request), hex(nonce)),
+            Call::Finish { chip_ok, signature } => {
+                format!("finish\n  chip_ok {chip_ok}\n  signature {}", hex(signature))
+            }
+        };
+        format!(
+            "{call}\n  state {:?}\n  transcript length {}\n  answer length {}\n  answer before {}\n  image {}",
+            self.state,
+            self.transcript_len,
+            self.answer.len(),
+            hex(&self.answer),
+            hex(&self.image)
+        )
+    }
+}
+
+/// What has been met, so that a generator gone astray shows.
+struct Met {
+    numbers: [u64; 17],
+    errors: [u64; 256],
+    accepted: [u64; 256],
+    signed: u64,
+    finished: [u64; 2],
+    shown: u64,
+    images: [u64; 17],
+}
+
+impl Met {
+    fn nothing() -> Met {
+        Met {
+            numbers: [0; 17],
+            errors: [0; 256],
+            accepted: [0; 256],
+            signed: 0,
+            finished: [0; 2],
+            shown: 0,
+            images: [0; 17],
+        }
+    }
+}
+
+struct Host {
+    rng: Rng,
+    spec: Spec,
+    image: Vec<u8>,
+    transcript: Both<u8>,
+    state: [u32; 8],
+    /// The answer that awaits a signature.
+    kept: Vec<u8>,
+    /// Whether the last call found the state out of bounds.
+    stuck: bool,
+}
+
+impl Host {
+    fn new(mut rng: Rng) -> Host {
+        let spec = valid_spec(&mut rng);
+        let image = encode(&spec.records);
+        let length = rng.pick(&[16_384, 16_384, 16_385, 16_500, 20_000]);
+        let contents = rng.bytes(length);
+        let guard = rng.byte();
+        let transcript = Both::new(&mut rng, &contents, guard);
+        let state = match rng.below(10) {
+            0 | 1 => negotiated_state(&mut rng, &spec),
+            2 => hostile_state(&mut rng, &spec),
+            _ => [0; 8],
+        };
+        let mut host = Host { rng, spec, image, transcript, state, kept: Vec::new(), stuck: false };
+        host.keep_any_answer();
+        host
+    }
+
+    /// For a state that was made up: any bytes as its awaited answer.
+    fn keep_any_answer(&mut self) {
+        let length = if self.state[6] == 0 { 0 } else { (self.state[7] as usize).min(5_000) };
+        self.kept = self.rng.bytes(length);
+    }
+
+    fn setting(&mut self) -> Setting {
+        match self.rng.below(40) {
+            0 => {
+                self.state = hostile_state(&mut self.rng, &self.spec);
+                self.keep_any_answer();
+            }
+            1 | 2 => {
+                self.state = negotiated_state(&mut self.rng, &self.spec);
+                self.keep_any_answer();
+            }
+            3 if self.rng.one_in(3) => {
+                self.spec = valid_spec(&mut self.rng);
+                self.image = encode(&self.spec.records);
+            }
+            4 if self.rng.one_in(3) => self.state = [0; 8],
+            _ if self.stuck && self.rng.one_in(2) => {
+                self.state = if self.rng.one_in(2) { [0; 8] } else { negotiated_state(&mut self.rng, &self.spec) };
+                self.keep_any_answer();
+            }
+            _ => {}
+        }
+        let rng = &mut self.rng;
+
+        let image = match rng.below(30) {
+            0 => damaged(rng, &self.spec),
+            1 => encode(&valid_spec(rng).records),
+            2 => {
+                let bare: Vec<_> = self.spec.records.iter().filter(|record| record.0 < 3).cloned().collect();
+                encode(&bare)
+            }
+            _ => self.image.clone(),
+        };
+
+        let mut state = self.state.to_vec();
+        if rng.one_in(80) {
+            let length = rng.pick(&[0, 1, 7, 9, 16]);
+            state.resize(length, rng.word());
+        }
+
+        let whole = self.transcript.plain.len();
+        let transcript_len = match rng.below(40) {
+            0 => rng.pick(&[0, 1, 512, 8_704, 16_383]),
+            1 => rng.below(16_384),
+            2..=5 => rng.range(16_384, whole),
+            6 | 7 => 16_384,
+            _ => whole,
+        };
+        let answer_len = match rng.below(40) {
+            0 => rng.pick(&[0, 1, 4, 4_607]),
+            1 => rng.below(4_608),
+            2..=9 => rng.range(4_608, 4_700),
+            _ => 4_608,
+        };
+        let mut answer = rng.bytes(answer_len);
+
+        let finishing = if self.state[6] == 0 { rng.one_in(25) } else { !rng.one_in(3) };
+        let call = if finishing {
+            if !rng.one_in(6) {
+                let shared = self.kept.len().min(answer.len());
+                answer[..shared].copy_from_slice(&self.kept[..shared]);
+            }
+            let length = match rng.below(8) {
+                0 => rng.pick(&[0, self.spec.s() - 1, self.spec.s() + 1, 64, 96, 132, 256, 384, 512, 1_000]),
+                _ => self.spec.s(),
+            };
+            let chip_ok = rng.pick(&[0, 0, 1, 1, 1, 2, 0x100, 0x1_0000, 0x8000_0000, u32::MAX]);
+            Call::Finish { chip_ok, signature: rng.bytes(length) }
+        } else {
+            let request = some_request(rng, &self.spec, &self.state);
+            let length = match rng.below(40) {
+                0 => rng.pick(&[0, 1, 31, 33, 64]),
+                _ => 32,
+            };
+            Call::Respond { request, nonce: rng.bytes(length) }
+        };
+        Setting { image, state, transcript_len, answer, call }
+    }
+
+    /// Makes the call on both sides and compares.
+    fn make(&mut self, setting: &Setting, met: &mut Met) -> Result<(), String> {
+        let rng = &mut self.rng;
+        let guard = rng.byte();
+        let image = Guarded::new(rng, &setting.image, guard);
+        let mut state = Both::new(rng, &setting.state, rng_word(guard));
+        let mut answer = Both::new(rng, &setting.answer, guard);
+        let lent = setting.transcript_len;
+        let (plain, library) = match &setting.call {
+            Call::Respond { request, nonce } => {
+                let lent_request = Guarded::new(rng, request, guard);
+                let lent_nonce = Guarded::new(rng, nonce, guard);
+                let plain = plain::respond(
+                    &setting.image,
+                    &mut state.plain,
+                    &mut self.transcript.plain[..lent],
+                    &mut answer.plain,
+                    request,
+                    nonce,
+                );
+                let library = ffi::respond(
+                    image.get(),
+                    state.library.get_mut(),
+                    &mut self.transcript.library.get_mut()[..lent],
+                    answer.library.get_mut(),
+                    lent_request.get(),
+                    lent_nonce.get(),
+                );
+                unchanged("request", &lent_request, request)?;
+                unchanged("nonce", &lent_nonce, nonce)?;
+                (plain, library)
+            }
+            Call::Finish { chip_ok, signature } => {
+                let lent_signature = Guarded::new(rng, signature, guard);
+                let plain = plain::finish(
+                    &setting.image,
+                    &mut state.plain,
+                    &mut self.transcript.plain[..lent],
+                    &mut answer.plain,
+                    *chip_ok != 0,
+                    signature,
+                );
+                let library = ffi::finish_with(
+                    image.get(),
+                    state.library.get_mut(),
+                    &mut self.transcript.library.get_mut()[..lent],
+                    answer.library.get_mut(),
+                    *chip_ok,
+                    lent_signature.get(),
+                );
+                unchanged("signature", &lent_signature, signature)?;
+                (plain, library)
+            }
+        };
+        if plain != library {
+            return Err(format!(
+                "plain gives number {} and length {}, the library number {} and length {}; plain's answer {}, the \
+                 library's {}",
+                plain >> 16,
+                plain & 0xFFFF,
+                library >> 16,
+                library & 0xFFFF,
+                answer.plain.get(..(plain & 0xFFFF) as usize).map_or_else(String::new, hex),
+                answer.library.get().get(..(library & 0xFFFF) as usize).map_or_else(String::new, hex),
+            ));
+        }
+        answer.compare("answer buffer")?;
+        state.compare("state")?;
+        self.transcript.compare("transcript buffer")?;
+        unchanged("image", &image, &setting.image)?;
+
+        let (number, length) = (plain >> 16, (plain & 0xFFFF) as usize);
+        met.numbers[number as usize] += 1;
+        self.stuck = number == 14;
+        if number != 0 {
+            if length != 0 || answer.plain != setting.answer || state.plain != setting.state {
+                return Err("a number, and yet something was changed (on both sides)".to_owned());
+            }
+        } else {
+            self.state.copy_from_slice(&state.plain);
+            let changed = answer.plain[length..] != setting.answer[length..];
+            if changed && matches!(setting.call, Call::Respond { .. }) {
+                return Err("bytes past the answer were changed (on both sides)".to_owned());
+            }
+            match &setting.call {
+                Call::Respond { .. } if answer.plain[1] == 0x7F => {
+                    met.errors[usize::from(answer.plain[2])] += 1;
+                    if state.plain != setting.state {
+                        return Err("an ERROR, and yet the state was changed (on both sides)".to_owned());
+                    }
+                }
+                Call::Respond { request, .. } => {
+                    met.accepted[usize::from(request[1])] += 1;
+                    if self.state[6] == 0 {
+                        self.kept.clear();
+                    } else {
+                        met.signed += 1;
+                        self.kept = answer.plain[..length].to_vec();
+                    }
+                }
+                Call::Finish { chip_ok, .. } => {
+                    met.finished[usize::from(*chip_ok != 0)] += 1;
+                    self.kept.clear();
+                }
+            }
+        }
+        let state = self.state;
+        compare_to_sign(&mut self.rng, &state, met)?;
+        if self.rng.one_in(8) {
+            let hostile = hostile_state(&mut self.rng, &self.spec);
+            let length = if self.rng.one_in(10) { self.rng.below(8) } else { 8 };
+            compare_to_sign(&mut self.rng, &hostile[..length], met)?;
+        }
+        let reading = (plain::read_image(&setting.image), ffi::read_image(image.get()));
+        if reading.0 != reading.1 {
+            return Err(format!("read_image: plain gives {:#x}, the library {:#x}", reading.0, reading.1));
+        }
+        met.images[(reading.0 >> 16) as usize] += 1;
+        unchanged("image", &image, &setting.image)
+    }
+}
+
+fn rng_word(guard: u8) -> u32 {
+    u32::from_le_bytes([guard, guard ^ 0x5A, guard, guard ^ 0xA5])
+}
+
+fn unchanged<T: Copy + PartialEq>(name: &str, lent: &Guarded<T>, before: &[T]) -> Result<(), String> {
+    if lent.intact() && lent.get() == before {
+        Ok(())
+    } else {
+        Err(format!("the library wrote to or around the {name}"))
+    }
+}
+
+fn compare_to_sign(rng: &mut Rng, words: &[u32], met: &mut Met) -> Result<(), String> {
+    let prefix_len = if rng.one_in(12) { rng.pick(&[0, 1, 64, 99, 101, 160]) } else { 100 };
+    let parts_len = if rng.one_in(12) { rng.pick(&[0, 1, 3, 5, 8]) } else { 4 };
+    let (guard, contents, word) = (rng.byte(), rng.bytes(prefix_len), rng.word());
+    let state = Guarded::new(rng, words, word);
+    let mut prefix = Both::new(rng, &contents, guard);
+    let mut parts = Both::new(rng, &vec![word; parts_len], !word);
+    let plain = plain::to_sign(words, &mut prefix.plain, &mut parts.plain);
+    let library = ffi::to_sign(state.get(), prefix.library.get_mut(), parts.library.get_mut());
+    let report = |what: String| format!("to_sign of {words:?} (prefix {prefix_len}, parts {parts_len}): {what}");
+    if plain != library {
+        return Err(report(format!("plain gives {plain:#x}, the library {library:#x}")));
+    }
+    prefix.compare("prefix").map_err(report)?;
+    parts.compare("parts").map_err(report)?;
+    unchanged("state", &state, words).map_err(report)?;
+    met.shown += u64::from(plain == 100);
+    Ok(())
+}
+
+fn from_env(name: &str, default: u64) -> u64 {
+    match std::env::var(name) {
+        Err(_) => default,
+        Ok(text) => {
+            let parsed = match text.strip_prefix("0x") {
+                Some(digits) => u64::from_str_radix(digits, 16),
+                None => text.parse(),
+            };
+            parsed.unwrap_or_else(|error| panic!("{name}={text}: {error}"))
+        }
+    }
+}
+
+#[test]
+fn random_runs() {
+    let seed = from_env("SPDM_SEED", DEFAULT_SEED);
+    let calls = from_env("SPDM_CALLS", DEFAULT_CALLS);
+    let trace = std::env::var_os("SPDM_TRACE").is_some();
+    println!("seed {seed} ({seed:#x}), {calls} calls");
+    let start = Instant::now();
+    let mut met = Met::nothing();
+    let (mut made, mut runs) = (0, 0u64);
+    while made < calls {
+        let mut rng = Rng(seed ^ runs.wrapping_mul(0xD134_2543_DE82_EF95));
+        let in_this_run = rng.range(1, 80);
+        let mut host = Host::new(rng);
+        for _ in 0..in_this_run {
+            if made == calls {
+                break;
+            }
+            let setting = host.setting();
+            if trace {
+                println!("run {runs}, call {made}: {}", setting.describe());
+            }
+            if let Err(difference) = host.make(&setting, &mut met) {
+                panic!(
+                    "DIFFERENCE at seed {seed}, run {runs}, call {made}: {difference}\nthe call: {}",
+                    setting.describe()
+                );
+            }
+            made += 1;
+        }
+        runs += 1;
+    }
+    println!("{made} calls in {runs} runs, {:.1} s, no difference", start.elapsed().as_secs_f64());
+    print_met(&met);
+    if calls >= 100_000 {
+        for number in [0, 1, 2, 3, 4, 5, 6, 7, 8, 11, 12, 13, 14, 15, 16] {
+            assert!(met.numbers[number] > 0, "number {number} was never met");
+        }
+        for code in [0x01, 0x03, 0x04, 0x05, 0x07, 0x0D, 0x0E, 0x41] {
+            assert!(met.errors[code] > 0, "error {code:#04x} was never met");
+        }
+        for code in [0x81, 0x82, 0x83, 0x84, 0xE0, 0xE1, 0xE3] {
+            assert!(met.accepted[code] > 0, "request {code:#04x} was never accepted");
+        }
+        assert!(met.finished.iter().all(|&count| count > 0) && met.signed > 0 && met.shown > 0);
+    }
+}
+
+/// The readers alone, mostly on damaged images.
+#[test]
+fn random_images() {
+    let seed = from_env("SPDM_SEED", DEFAULT_SEED) ^ 0x494D_4147_4553;
+    let count = from_env("SPDM_CALLS", DEFAULT_CALLS) / 2;
+    let start = Instant::now();
+    let mut rng = Rng(seed);
+    let mut spec = valid_spec(&mut rng);
+    let mut numbers = [0; 17];
+    for made in 0..count {
+        if made % 16 == 0 {
+            spec = valid_spec(&mut rng);
+        }
+        let image = if made % 16 == 0 { encode(&spec.records) } else { damaged(&mut rng, &spec) };
+        let guard = rng.byte();
+        let lent = Guarded::new(&mut rng, &image, guard);
+        let (plain, library) = (plain::read_image(&image), ffi::read_image(lent.get()));
+        assert!(
+            plain == library,
+            "DIFFERENCE at seed {seed}, image {made}: plain gives {plain:#x}, the library {library:#x}: {}",
+            hex(&image)
+        );
+        unchanged("image", &lent, &image).unwrap_or_else(|what| panic!("seed {seed}, image {made}: {what}"));
+        assert!(made % 16 != 0 || plain == 0, "seed {seed}, image {made}: a valid image is refused: {}", hex(&image));
+        numbers[(plain >> 16) as usize] += 1;
+    }
+    println!("{count} images, {:.1} s, no difference", start.elapsed().as_secs_f64());
+    print_counts("images  ", &numbers, false);
+}
+
+fn print_counts(name: &str, counts: &[u64], in_hex: bool) {
+    let mut line = name.to_owned();
+    for (value, count) in counts.iter().enumerate().filter(|(_, &count)| count > 0) {
+        let value = if in_hex { format!("{value:02X}") } else { value.to_string() };
+        write!(line, "  {value}: {count}").expect("a string takes all");
+    }
+    println!("{line}");
+}
+
+fn print_met(met: &Met) {
+    print_counts("numbers ", &met.numbers, false);
+    print_counts("errors  ", &met.errors, true);
+    print_counts("accepted", &met.accepted, true);
+    print_counts("images  ", &met.images, false);
+    println!(
+        "awaiting a signature: {}; finished: {} signed, {} chip failed; shown to be signed: {}",
+        met.signed, met.finished[1], met.finished[0], met.shown
+    );
+}
