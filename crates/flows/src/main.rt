@@ -18,11 +18,11 @@ use show::print;
 use show::print_number;
 use show::print_sum;
 
+// The buffers that are lent: the transcript, an answer, and room for an image.
 const TRANSCRIPT: usize = 16384;
 
 const ANSWER: usize = 4608;
 
-// Room for an image.
 const IMAGE: usize = 6000;
 
 const SLOTS: u8 = 8;
@@ -130,7 +130,7 @@ fn paper_challenge(image: &[u8]) {
     );
 }
 
-// GET_VERSION on a fresh connection.
+// Names an image by its length and CRC-32, and sends GET_VERSION on a fresh connection.
 fn version(image: &[u8]) {
     let mut transcript = [0u8; TRANSCRIPT];
     let mut answer = [0u8; ANSWER];
