@@ -56,20 +56,20 @@ fn print_reply(reply: Reply, answer: &[u8]) {
 // What the chip is to sign: the prefix, and the hash over two parts of the transcript.
 fn print_signed(s: State, transcript: &[u8]) {
     let mut prefix = [0u8; PREFIX];
-    responder::signing::write_prefix(s.awaited, &mut prefix);
+    signing::write_prefix(s.awaited, &mut prefix);
     print(b" [prefix of ");
     print_sum(&prefix);
     print(b"; hashed ");
-    print_sum(responder::signing::first_part(s, transcript));
+    print_sum(signing::first_part(s, transcript));
     print(b" and ");
-    print_sum(responder::signing::second_part(s, transcript));
+    print_sum(signing::second_part(s, transcript));
     print(b"]");
 }
 
 // Finishes a signed answer; the chip's signature is a fixed pattern.
 fn finish(image: &[u8], s: State, transcript: &[u8], answer: &mut [u8]) -> State {
     print_signed(s, transcript);
-    let o = responder::signing::finish(
+    let o = signing::finish(
         image,
         s,
         transcript,

@@ -102,7 +102,7 @@ fn paper_challenge(image: &[u8]) {
     print(b"paper: CHALLENGE in phase 2\n");
     let s = run(
         image,
-        responder::fresh(),
+        state::fresh(),
         &mut transcript,
         &mut answer,
         &[GET_VERSION, GET_CAPABILITIES],
@@ -139,7 +139,7 @@ fn version(image: &[u8]) {
     print(b"\n");
     run(
         image,
-        responder::fresh(),
+        state::fresh(),
         &mut transcript,
         &mut answer,
         &[GET_VERSION],
@@ -163,7 +163,7 @@ fn other_version(image: &[u8]) {
     print(b"6.4\n");
     let s = run(
         image,
-        responder::fresh(),
+        state::fresh(),
         &mut transcript,
         &mut answer,
         &SETUP,
@@ -182,7 +182,7 @@ fn too_early(image: &[u8]) {
     print(b"6.5\n");
     run(
         image,
-        responder::fresh(),
+        state::fresh(),
         &mut transcript,
         &mut answer,
         &[GET_VERSION, GET_CAPABILITIES, CHALLENGE, GET_CERTIFICATE],
@@ -223,7 +223,7 @@ fn invalid_fields(image: &[u8]) {
     print(b"6.6\n");
     let s = run(
         image,
-        responder::fresh(),
+        state::fresh(),
         &mut transcript,
         &mut answer,
         &NEGOTIATION,
@@ -247,7 +247,7 @@ fn flow(image: &[u8], name: &[u8], slot: u8, setup: &[u8], steps: &[u8]) {
     print(b"\n");
     let s = run(
         image,
-        responder::fresh(),
+        state::fresh(),
         &mut transcript,
         &mut answer,
         setup,
@@ -278,7 +278,7 @@ fn valid_slots(image: &[u8]) -> u8 {
     print(b"slots\n");
     run(
         image,
-        responder::fresh(),
+        state::fresh(),
         &mut transcript,
         &mut answer,
         &NEGOTIATION,

@@ -9,7 +9,7 @@ pub mod Stands
 pub mod SlotPlaces
 pub mod Measured
 pub mod Holds
-pub mod Enums
-pub mod Frames
-pub mod First
-pub mod Turns
+pub mod Given
+pub mod Found
+pub mod Verdicts
+pub mod SlotLaws

@@ -94,7 +94,7 @@ fn print_slot(s: &[u8], ix: Index, k: u8) {
     let SlotCheck::Slot(slot) = image::slot_number(k) else {
         return;
     };
-    let length = image::lookup::chain_length(s, ix, slot);
+    let length = lookup::chain_length(s, ix, slot);
     if length == 0 {
         return;
     }
@@ -103,7 +103,7 @@ fn print_slot(s: &[u8], ix: Index, k: u8) {
     print(b": chain of ");
     print_number(length as u64);
     print(b" bytes, digest ");
-    print_digest(image::lookup::digest(s, ix, slot));
+    print_digest(lookup::digest(s, ix, slot));
 }
 
 // A measurement is its index, its type and its digest.
@@ -124,7 +124,7 @@ fn print_slots(s: &[u8], ix: Index) {
 
 fn print_measurements(s: &[u8], ix: Index) {
     for k in 0..wire::wide(ix.measurements) {
-        print_measurement(image::lookup::nth_measurement(s, ix, k));
+        print_measurement(lookup::nth_measurement(s, ix, k));
     }
 }
 
@@ -136,9 +136,9 @@ fn print_contents(s: &[u8], ix: Index) {
     }
     print_measurements(s, ix);
     print(b"summary of the TCB ");
-    print_digest(image::lookup::tcb_summary(s, ix));
+    print_digest(lookup::tcb_summary(s, ix));
     print(b"summary of all ");
-    print_digest(image::lookup::full_summary(s, ix));
+    print_digest(lookup::full_summary(s, ix));
 }
 
 fn print_image(s: &[u8]) {
@@ -149,7 +149,7 @@ fn print_image(s: &[u8]) {
     } else {
         print(b" bytes");
     }
-    let read = image::read_image(s);
+    let read = reader::read_image(s);
     let verdict = read.verdict;
     let Verdict::Refused(number) = verdict else {
         print(b": accepted\n");

@@ -38,7 +38,7 @@ fn put_slot(text: &mut [u8], first: usize, at: usize, s: &[u8], ix: Index, k: u8
     let SlotCheck::Slot(slot) = image::slot_number(k) else {
         return at;
     };
-    let length = image::lookup::chain_length(s, ix, slot);
+    let length = lookup::chain_length(s, ix, slot);
     if length == 0 {
         return at;
     }
@@ -65,7 +65,7 @@ fn put_indices(text: &mut [u8], first: usize, s: &[u8], ix: Index) -> usize {
     }
     let mut at = first;
     for k in 0..count {
-        let index = wire::byte_at(image::lookup::nth_measurement(s, ix, k), 0);
+        let index = wire::byte_at(lookup::nth_measurement(s, ix, k), 0);
         let entry = put_comma(text, first, at);
         at = vectors::put_decimal(text, entry, index as u64);
     }
@@ -119,7 +119,7 @@ fn agrees(line: &[u8], number: u64) -> bool {
     };
     let s = wire::part_of(&space, 0, n);
     let mut text = [0u8; TEXT];
-    let end = put_result(&mut text, s, image::read_image(s));
+    let end = put_result(&mut text, s, reader::read_image(s));
     let said = wire::part_of(&text, 0, end);
     let same = check::same(said, wanted);
     if !same {

@@ -1,4 +1,6 @@
 // SPDM's vocabulary as types: the connection state, the kinds of request, and what a call comes to. The rules are in specs/.
+pub mod limits;
+
 use image::MeasurementIndex;
 use image::SlotNumber;
 

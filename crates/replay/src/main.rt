@@ -264,7 +264,7 @@ fn finish(
     signature: &[u8],
 ) -> Outcome {
     let n = least(lent as usize, answer.len());
-    responder::signing::finish(image, s, transcript, &mut answer[..n], ok, signature)
+    signing::finish(image, s, transcript, &mut answer[..n], ok, signature)
 }
 
 // An answer that awaits its signature since a call is kept.
@@ -435,7 +435,7 @@ fn before_first() -> Run {
         second: 0,
         room: 0,
         given: 0,
-        state: responder::fresh(),
+        state: state::fresh(),
         at: vectors::before_first(),
         lines: 0,
         ended: false,

@@ -12,12 +12,9 @@ use Rattle.wire.proofs.Laws.{front-splice}
 use Rattle.wire.specs.Pick.{pick}
 use Rattle.image.specs.Contents.{Contents}
 use Rattle.model.specs.Limits.{mStart}
-use Rattle.model.specs.Facts.{Facts, factsAt, factsOf}
-use Rattle.model.specs.State.{inBounds}
-use Rattle.model.proofs.Tests.{counts}
+use Rattle.model.specs.Facts.{factsAt, factsOf}
 use Rattle.model.proofs.Told.{AlgorithmsTold}
 use Rattle.image.specs.declared.Index.{Index}
-use mathlib.Core.Bool.{true}
 use Rattle.model.specs.Measurements.{layoutOf, signatureOf, measurementsBytes}
 use Rattle.model.specs.Effects.{Change, accept, effectOf}
 use Rattle.model.specs.Box.{placeFor, changedState, Responded}
@@ -28,7 +25,7 @@ use Rattle.model.specs.declared.Signer.{Signer}
 use Rattle.model.specs.declared.Signer.the-variants as signer
 use Rattle.model.specs.declared.Decision.the-variants as decision
 use Rattle.model.specs.declared.Reply.the-variants as reply
-use Rattle.responder.specs.Read.{Within, measuredState}
+use Rattle.responder.specs.Measured.{measuredState}
 
 -- the first bytes of an answer, read back from the buffer
 read-front : (before after whole : List ℕ) (n : ℕ) → after ≡ splice before 0 whole → length whole ≤ length before → n ≤ length whole → take n after ≡ take n whole
@@ -93,10 +90,6 @@ measured-responded s t u before after r nonce k o (signer.Slot d) n size layout 
     (a ∙ ap (λ (y : ℕ). splice t (mStart + s .m) (take y r ++ take n after)) i)
     (p ∙ ap reply.Answer (omega arith))
     (q ∙ same-state _ _ _ _ _ _ _ _ _ _ _ _ (sym (add-zero _)) refl (ap (λ (y : ℕ). s .m + y) (ap (λ (y : ℕ). y + n) i ∙ sym (exchange-length r m 37 n h l))) (omega arith))
-
--- a state within its bounds has counts within their parts
-pub within : (f : Facts) (s : State) → inBounds f s ≡ true → Within s
-within f s e = let n = counts f s e in record { a = n .0; b = n .1 .0; m = n .1 .1 }
 
 -- what an accepted NEGOTIATE_ALGORITHMS tells does not go by the image's bytes
 pub algorithms-any : (b b′ : List ℕ) (ix : Index) (s : State) (r : List ℕ) (layout selection : ℕ) → AlgorithmsTold (factsAt b ix) s r layout selection → AlgorithmsTold (factsAt b′ ix) s r layout selection

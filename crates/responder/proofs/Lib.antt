@@ -1,10 +1,4 @@
-pub mod Given
-pub mod Verdicts
-pub mod Found
-pub mod SlotLaws
-pub mod IndexLaws
 pub mod RunLaws
-pub mod BoundLaws
 pub mod AlgorithmLaws
 pub mod DigestLaws
 pub mod ChallengeLaws

@@ -1,5 +1,4 @@
--- MEASUREMENTS: its decision by what the request asks; its blocks, each of 7 + H bytes, and its parts are written one behind the other; and it
--- is short. Assumes nothing.
+-- MEASUREMENTS: its blocks, each of 7 + H bytes, and its parts are written one behind the other. Assumes nothing.
 use mathlib.Core.Path.{_≡_, refl, sym, ap, _∙_}
 use mathlib.Core.List.{List, [], _∷_, _++_, map, append-assoc, append-nil}
 use mathlib.Core.Bool.{Bool, true, false}
@@ -42,14 +41,6 @@ few-blocks n (operation.One i) h = omega arith
 pub blocks-few : (n h : ℕ) → n ≤ measurementsLimit → h ≤ digestMost → n * (7 + h) ≤ 2272
 blocks-few n h p q = let e : 7 + h ≤ 71 = omega arith in mul-le-mul p e
 
--- MEASUREMENTS without its signature is short, and so is what is kept of the request
-pub measurements-few : (f : Facts) (o : Operation) → f .measurements ≤ measurementsLimit → measurementsSize f o ≤ 2314
-measurements-few f o p = omega (arith, blocks-few (blockCount (f .measurements) o) (hashSize f) (few-blocks (f .measurements) o p) (digest-most (f .hash)))
-
-pub layout-few : (g : Signer) → layoutOf g ≤ signedLayout
-layout-few signer.Nobody = omega arith
-layout-few (signer.Slot k) = omega arith
-
 -- a block in two writes
 pub block-run : (l : List ℕ) (at h : ℕ) (body : List ℕ) → length body ≡ 2 + h
     → splice (splice l at (getD body 0 0 ∷ 1 ∷ (3 + h) % 256 ∷ (3 + h) / 256 % 256 ∷ getD body 1 0 ∷ h % 256 ∷ h / 256 % 256 ∷ [])) (at + 7) (part body 2 h)
@@ -58,25 +49,6 @@ unfolding blockBytes
 block-run l at h body e =
     rw (take-all h (drop 2 body) (simp length-drop (omega arith)))
     (splice-then l at (getD body 0 0 ∷ 1 ∷ (3 + h) % 256 ∷ (3 + h) / 256 % 256 ∷ getD body 1 0 ∷ h % 256 ∷ h / 256 % 256 ∷ []) (drop 2 body) 7 refl)
-
--- the decision, by what the request asks
-
-module _ (f : Facts) (s : State) where
-  pub one-step : (g : Signer) (x : ℕ) (n : MeasurementIndex) → n .0 ≡ x → eqb x 0 ≡ false → eqb x 0xFF ≡ false → (b : Bool) → f .present x ≡ b
-      → operationStep f s g (operationOf x) ≡ pick b (measurementsSized f s g (operation.One n)) invalid
-  unfolding operationStep operationFits pick
-  one-step g x n i p q b e = rw (p, q, e, ← i)
-
-  pub unsigned-step : (r : List ℕ) → asksSignature r ≡ false → headerLength ≤ length r → operationStep f s signer.Nobody (operationOf (param2 r)) ≡ measurementsDecision f s r
-  unfolding measurementsDecision measurementsBy signerFits pick
-  unsigned-step r p h = rw (p, le-ltb (length r) headerLength h)
-
-  pub signed-step : (r : List ℕ) → asksSignature r ≡ true
-      → measurementsDecision f s r
-      ≡ pick (ltb (length r) signedLayout) invalid
-      (pick (ltb 0 (f .chainLength (signerSlot r))) (operationStep f s (signer.Slot (record { 0 = signerSlot r })) (operationOf (param2 r))) invalid)
-  unfolding measurementsDecision measurementsBy signerFits pick
-  signed-step r p = rw p
 
 -- one block more
 next : (h : ℕ) (ms : List Measurement) (k : ℕ) → k < length ms → blocksOf h (take (suc k) ms) ≡ blocksOf h (take k ms) ++ blockBytes h (getD (map measurementBody ms) k [])

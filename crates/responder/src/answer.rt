@@ -1,16 +1,4 @@
 // What each decision does: the answer is written, the exchange appended, and the next state made.
-use super::limits::AWAITS_CHALLENGE;
-use super::limits::AWAITS_MEASUREMENTS;
-use super::limits::B_START;
-use super::limits::CAPABILITIES_LAYOUT;
-use super::limits::CERTIFICATE_HEAD;
-use super::limits::CERTIFICATE_LAYOUT;
-use super::limits::CHALLENGE_LAYOUT;
-use super::limits::HEADER_LENGTH;
-use super::limits::M_START;
-use super::limits::RESPONSE_TOO_LARGE;
-use super::limits::VERSION_10;
-use super::limits::VERSION_12;
 use image::Index;
 use image::SlotNumber;
 use model::Operation;
@@ -18,6 +6,18 @@ use model::Outcome;
 use model::Reply;
 use model::Signer;
 use model::State;
+use model::limits::AWAITS_CHALLENGE;
+use model::limits::AWAITS_MEASUREMENTS;
+use model::limits::B_START;
+use model::limits::CAPABILITIES_LAYOUT;
+use model::limits::CERTIFICATE_HEAD;
+use model::limits::CERTIFICATE_LAYOUT;
+use model::limits::CHALLENGE_LAYOUT;
+use model::limits::HEADER_LENGTH;
+use model::limits::M_START;
+use model::limits::RESPONSE_TOO_LARGE;
+use model::limits::VERSION_10;
+use model::limits::VERSION_12;
 ghost use mathlib.Core.Path.{_≡_};
 ghost use mathlib.Core.List.{List};
 ghost use Prim.Native.Nat.{ℕ, _+_, _≤_};
@@ -29,7 +29,9 @@ ghost use Rattle.model.specs.Effects.{errorVersion, effectOf};
 ghost use Rattle.model.specs.Box.{Responded};
 ghost use Rattle.model.specs.declared.Decision.the-variants as decision;
 ghost use Rattle.model.proofs.Told.{CapabilitiesTold, AlgorithmsTold, DigestsTold, CertificateTold, ChallengeTold, MeasurementsTold};
-ghost use Rattle.responder.specs.Read.{ReadAs, Known, Fine, Within, measuredState};
+ghost use Rattle.image.specs.Read.{ReadAs, Known, Fine};
+ghost use Rattle.state.specs.Within.{Within};
+ghost use Rattle.responder.specs.Measured.{measuredState};
 
 fn error_version(s: State) -> u8
     ensures { λ r. ⌜ r ≡ errorVersion s ⌝ }
@@ -203,7 +205,7 @@ pub(crate) fn accept_digests(
     ensures { λ o. ⌜ ((c : Contents) (nonce : List ℕ) → ReadAs (now (image .entry)) ix c → Responded (effectOf decision.Digests c s nonce (now (request .entry))) s (now (transcript .entry)) (now (transcript .exit)) (now (answer .entry)) (now (answer .exit)) o) ⌝ }
 {
     super::digests::write_digests(answer, image, ix);
-    let n = super::digests::digests_size(ix);
+    let n = sizes::digests_size(ix);
     super::transcript::append(
         transcript,
         B_START + s.b as usize,
@@ -266,7 +268,7 @@ pub(crate) fn accept_challenge(
     ensures { λ o. ⌜ ((c : Contents) → ReadAs (now (image .entry)) ix c → Responded (effectOf (decision.Challenge slot x) c s (now (nonce .entry)) (now (request .entry))) s (now (transcript .entry)) (now (transcript .exit)) (now (answer .entry)) (now (answer .exit)) o) ⌝ }
 {
     super::challenge::write_challenge(answer, image, ix, nonce, slot, x);
-    let n = super::challenge::challenge_size(ix, x);
+    let n = sizes::challenge_size(ix, x);
     let whole = n + image::signature_size(ix.signature);
     super::transcript::append(
         transcript,
@@ -308,9 +310,9 @@ pub(crate) fn accept_measurements(
     ensures { λ r. ⌜ ((c : Contents) → ReadAs (now (image .entry)) ix c → Responded (effectOf (decision.Measurements o g) c s (now (nonce .entry)) (now (request .entry))) s (now (transcript .entry)) (now (transcript .exit)) (now (answer .entry)) (now (answer .exit)) r) ⌝ }
 {
     super::measurements::write_measurements(answer, image, ix, nonce, o, g);
-    let n = super::measurements::measurements_size(ix, o);
-    let whole = n + super::measurements::signature_of(ix, g);
-    let layout = super::measurements::layout_of(g);
+    let n = sizes::measurements_size(ix, o);
+    let whole = n + sizes::signature_of(ix, g);
+    let layout = sizes::layout_of(g);
     super::transcript::append(
         transcript,
         M_START + s.m as usize,

@@ -1,34 +1,13 @@
-// GET_CAPABILITIES and CAPABILITIES.
-use super::limits::CAPABILITIES_LAYOUT;
-use super::limits::PEER_LEAST;
-use super::limits::VERSION_12;
+// CAPABILITIES.
 use image::Index;
-use model::Decision;
+use model::limits::VERSION_12;
 ghost use mathlib.Core.Path.{_≡_};
-ghost use mathlib.Core.List.{List};
-ghost use Prim.Native.Nat.{ℕ};
 ghost use lib.Dec.{eqb};
 ghost use Rattle.wire.specs.Bytes.{splice};
 ghost use Rattle.wire.specs.Pick.{pick};
 ghost use Rattle.image.specs.Contents.{Contents};
 ghost use Rattle.image.specs.Index.{indexOf};
-ghost use Rattle.model.specs.Capabilities.{capabilitiesDecision, capabilitiesBytes};
-
-pub(crate) fn decide_capabilities(r: &[u8]) -> Decision
-    ensures { λ d. ⌜ d ≡ capabilitiesDecision (now (r .entry)) ⌝ }
-{
-    if r.len() < CAPABILITIES_LAYOUT {
-        return super::steps::invalid_request();
-    }
-    let peer = wire::get_u32le(r, 12);
-    if peer < PEER_LEAST {
-        return super::steps::invalid_request();
-    }
-    if wire::get_u32le(r, 16) < peer {
-        return super::steps::invalid_request();
-    }
-    Decision::Capabilities { peer }
-}
+ghost use Rattle.model.specs.Capabilities.{capabilitiesBytes};
 
 fn flags(ix: Index) -> u8
     ensures { λ r. ⌜ r ≡ pick (eqb (ix .measurements) 0) 0x06 0x16 ⌝ }

@@ -1,16 +1,11 @@
-// The responder: one request in, one answer out; and finishing a signed answer. It tests everything itself.
+// The responder: one request in, one answer out. It tests everything itself.
 mod algorithms;
 mod answer;
-mod bounds;
 mod capabilities;
 mod certificate;
 mod challenge;
-mod decide;
 mod digests;
-mod limits;
 mod measurements;
-pub mod signing;
-mod steps;
 mod transcript;
 mod version;
 mod zeros;
@@ -21,34 +16,14 @@ use model::Decision;
 use model::Outcome;
 use model::Reply;
 use model::State;
-ghost use mathlib.Core.Path.{_≡_};
-ghost use mathlib.Core.List.{List};
-ghost use Prim.Native.Nat.{ℕ};
 ghost use lib.ListN.{length};
 ghost use Rattle.image.specs.Contents.{Contents};
 ghost use Rattle.image.specs.Reading.{reading};
 ghost use Rattle.model.specs.Facts.{factsOf};
-ghost use Rattle.model.specs.State.{fresh as freshState};
 ghost use Rattle.model.specs.Decisions.{decisionOf};
 ghost use Rattle.model.specs.Effects.{effectOf, effectBy};
 ghost use Rattle.model.specs.Box.{Responded};
-ghost use Rattle.responder.specs.Read.{ReadAs, Known};
-
-// The state of a connection on which nothing was said yet.
-pub fn fresh() -> State
-    ensures { λ r. ⌜ r ≡ freshState ⌝ }
-{
-    State {
-        phase: 0,
-        peer: 0,
-        selection: 0,
-        a: 0,
-        b: 0,
-        m: 0,
-        awaited: 0,
-        answer: 0,
-    }
-}
+ghost use Rattle.image.specs.Read.{ReadAs, Known};
 
 // A request on an image that was accepted: decided first, then carried out.
 fn answer_request(
@@ -63,7 +38,7 @@ fn answer_request(
     requires { ⌜ Known (now image) ix ⌝ }
     ensures { λ o. ⌜ ((c : Contents) → ReadAs (now (image .entry)) ix c → Responded (effectOf (decisionOf (factsOf c) s (length (now (answer .entry))) (length (now (transcript .entry))) (length (now (nonce .entry))) (now (request .entry))) c s (now (nonce .entry)) (now (request .entry))) s (now (transcript .entry)) (now (transcript .exit)) (now (answer .entry)) (now (answer .exit)) o) ⌝ }
 {
-    let d = decide::decide(
+    let d = decision::decide(
         image,
         ix,
         s,
@@ -151,12 +126,12 @@ pub fn respond(
 ) -> Outcome
     ensures { λ o. ⌜ Responded (effectBy (reading (now (image .entry))) s (length (now (answer .entry))) (length (now (transcript .entry))) (now (request .entry)) (now (nonce .entry))) s (now (transcript .entry)) (now (transcript .exit)) (now (answer .entry)) (now (answer .exit)) o ⌝ }
 {
-    let read = image::read_image(image);
+    let read = reader::read_image(image);
     let verdict = read.verdict;
     let ix = read.index;
     match verdict {
         Verdict::Refused(number) => Outcome {
-            reply: Reply::Number(steps::number(number)),
+            reply: Reply::Number(number as u32),
             state: s,
         },
         Verdict::Accepted => answer_request(image, ix, s, transcript, answer, request, nonce),

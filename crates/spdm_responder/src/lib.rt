@@ -153,7 +153,7 @@ pub extern "C" fn spdm_finish(
 {
     let s = state_in(state);
     let ok = chip_ok(chip);
-    let o = responder::signing::finish(image, s, transcript, answer, ok, signature);
+    let o = signing::finish(image, s, transcript, answer, ok, signature);
     let reply = o.reply;
     let next = o.state;
     put_state(state, next);
@@ -238,7 +238,7 @@ pub extern "C" fn spdm_to_sign(state: &[u32], prefix: &mut [u8], parts: &mut [u3
     match reply {
         Reply::Number(number) => number * 65536,
         Reply::Answer(length) => {
-            responder::signing::write_prefix(s.awaited, prefix);
+            signing::write_prefix(s.awaited, prefix);
             write_parts(s, parts);
             length as u32
         }
@@ -250,7 +250,7 @@ pub extern "C" fn spdm_to_sign(state: &[u32], prefix: &mut [u8], parts: &mut [u3
 pub extern "C" fn spdm_read_image(image: &[u8]) -> u32
     ensures { λ r. ⌜ r ≡ resultOf (readReply (reading (now (image .entry)))) ⌝ }
 {
-    let read = image::read_image(image);
+    let read = reader::read_image(image);
     let verdict = read.verdict;
     match verdict {
         Verdict::Refused(n) => n as u32 * 65536,

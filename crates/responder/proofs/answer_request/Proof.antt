@@ -13,9 +13,11 @@ use Rattle.model.specs.Box.{Responded}
 use Rattle.model.specs.declared.Decision.{Decision}
 use Rattle.model.specs.declared.Outcome.{Outcome}
 use Rattle.model.proofs.Told.{Told, told}
-use Rattle.responder.specs.Read.{ReadAs, Fine}
-use Rattle.responder.proofs.Given.{known-fine, facts}
-use Rattle.responder.proofs.Accepts.{within, algorithms-any, no-answer}
+use Rattle.image.specs.Read.{ReadAs, Fine}
+use Rattle.image.proofs.Given.{known-fine}
+use Rattle.model.proofs.SameFacts.{facts}
+use Rattle.state.proofs.Counts.{within}
+use Rattle.responder.proofs.Accepts.{algorithms-any, no-answer}
 use Rattle.responder.proofs.answer_request.Statement.{statement}
 use Rattle.responder.proofs.answer_request.Tie as tie
 
@@ -44,7 +46,7 @@ settled c k rd d e u after o v =
     subst (λ (x : Decision). Responded (effectOf x k (a .s) (a .nonce .now) (a .request .now)) (a .s) (a .transcript .now) u (a .answer .now) after o) q v
 
 decide-requires : tie.Need-decide-requires
-decide-requires c κs = known-fine {b = c .before .before .before .before .before .args .image .now} (λ i. c .before .before .before .before .shared-slice-known .given i .fits) (c .before .before .before .before .before .pre)
+decide-requires c κs = search needs
 
 enum-known-d : tie.Need-enum-known-d
 enum-known-d c = search needs

@@ -1,11 +1,10 @@
 -- A refused image says its number. The index of an accepted one is that of its contents, and the request is answered by their rules.
 -- Assumes nothing.
 use borrow.Author.Needs.{needs}
-use mathlib.Core.Path.{refl, ap}
+use mathlib.Core.Path.{refl}
 use Rattle.model.specs.Effects.{effectBy}
-use Rattle.model.specs.declared.Reply.the-variants as reply
 use Rattle.responder.proofs.Accepts.{no-answer}
-use Rattle.responder.proofs.Verdicts.{known, number-read}
+use Rattle.image.proofs.Verdicts.{known, number-read}
 use Rattle.responder.proofs.respond.Statement.{statement}
 use Rattle.responder.proofs.respond.Tie as tie
 
@@ -15,8 +14,8 @@ read-image-requires c κs = search needs
 enum-known-verdict : tie.Need-enum-known-verdict
 enum-known-verdict c = search needs
 
-number-requires : tie.Need-number-requires
-number-requires c κs = search needs
+cast-t12 : tie.Need-cast-t12
+cast-t12 c = search needs
 
 enum-told : tie.Need-enum-told
 enum-told c = search needs
@@ -27,9 +26,9 @@ answer-request-requires c κs = known _ (c .before .before .before .before .befo
 returns : tie.Need-returns
 unfolding effectBy
 returns c =
-    let b = c .before .before .before .before .before .before .before .before .before .before .before .args .image .now in
-    rw (number-read b (c .before .before .before .before .before .read-image .ensures) _ (c .before .before .verdict .given .1))
-    (record { reply = ap reply.Number (c .number .ensures); state = refl; answer = no-answer _; transcript = refl })
+    let b = c .before .before .before .before .before .before .before .before .before .before .args .image .now in
+    rw (number-read b (c .before .before .before .before .read-image .ensures) _ (c .before .verdict .given .1))
+    (record { reply = refl; state = refl; answer = no-answer _; transcript = refl })
 
 same-length : tie.Need-same-length
 same-length c = search needs
@@ -50,7 +49,7 @@ respond-spec =
     (tie.spec
     read-image-requires
     enum-known-verdict
-    number-requires
+    cast-t12
     enum-told
     answer-request-requires
     returns

@@ -1,5 +1,5 @@
 -- The tests are made in the definition's order, so the tests that led to each return pick its case. Assumes nothing.
-use Rattle.responder.proofs.BoundLaws.{last-test}
+use Rattle.wire.proofs.Picks.{last-test}
 use Rattle.wire.proofs.Picks.{picks}
 use Rattle.spdm_responder.specs.ToSign.{canShow}
 use Rattle.spdm_responder.proofs.can_show.Statement.{statement}

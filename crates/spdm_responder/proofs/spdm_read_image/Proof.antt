@@ -1,5 +1,5 @@
 -- The reader's verdict is the number that the image reads as, or none. Assumes nothing.
-use Rattle.responder.proofs.Verdicts.{number-read, known}
+use Rattle.image.proofs.Verdicts.{number-read, known}
 use borrow.Author.Needs.{needs}
 use Rattle.spdm_responder.proofs.spdm_read_image.Statement.{statement}
 use Rattle.spdm_responder.proofs.spdm_read_image.Tie as tie

@@ -9,12 +9,12 @@ use Rattle.wire.specs.Pick.{pick}
 use Rattle.model.specs.Effects.{effectOf}
 use Rattle.model.specs.declared.Reply.the-variants as reply
 use Rattle.responder.proofs.Accepts.{accepted, whole-front, exchange-length, same-state}
-use Rattle.responder.proofs.Given.{facts}
+use Rattle.model.proofs.SameFacts.{facts}
 use Rattle.model.specs.Facts.{Facts}
 use Rattle.model.specs.Certificate.{certificateBytes}
 use Rattle.model.proofs.Lengths.{certificate-length}
 use Rattle.image.specs.Held.{slotChain}
-use Rattle.responder.proofs.SlotLaws.{chain-short}
+use Rattle.image.proofs.SlotLaws.{chain-short}
 use borrow.Author.Needs.{needs}
 use Rattle.responder.proofs.answer.accept_certificate.Statement.{statement}
 use Rattle.responder.proofs.answer.accept_certificate.Tie as tie

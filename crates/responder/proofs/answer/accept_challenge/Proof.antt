@@ -11,7 +11,8 @@ use Rattle.wire.specs.Pick.{pick}
 use Rattle.model.specs.Effects.{effectOf}
 use Rattle.model.specs.declared.Reply.the-variants as reply
 use Rattle.responder.proofs.Accepts.{accepted, exchange-length, zeros-length, same-state}
-use Rattle.responder.proofs.Given.{valid, facts, known-fine}
+use Rattle.image.proofs.Given.{valid, known-fine}
+use Rattle.model.proofs.SameFacts.{facts}
 use Rattle.image.specs.Sizes.{signatureSize}
 use Rattle.model.specs.Facts.{Facts, factsOf, sigSize}
 use Rattle.model.specs.Challenge.{challengeSize, challengeBytes}
@@ -30,7 +31,7 @@ signature-size-requires : tie.Need-signature-size-requires
 signature-size-requires c κs = search needs
 
 add-whole : tie.Need-add-whole
-add-whole c = let q = c .before .before .before .before .before .before .before .before .before .before .before .pre .1 .1 .1 .1 in let e = c .before .challenge-size .ensures (c .before .before .before .before .before .before .before .before .before .before .before .args .image .now) in omega (arith, q .sized .room)
+add-whole c = let q = c .before .before .before .before .before .before .before .before .before .before .before .pre .1 .1 .1 .1 in let e = c .before .challenge-size .ensures .0 (c .before .before .before .before .before .before .before .before .before .before .before .args .image .now) in omega (arith, q .sized .room)
 
 cast-append : tie.Need-cast-append
 cast-append c = search needs
@@ -42,10 +43,10 @@ append-requires : tie.Need-append-requires
 append-requires c κs = search needs
 
 add-appended-to-b : tie.Need-add-appended-to-b
-add-appended-to-b c = let q = c .before .before .before .before .before .before .before .before .before .before .before .before .before .before .before .before .before .pre .1 .1 .1 .1 in let e = c .before .before .before .before .before .before .before .challenge-size .ensures (c .before .before .before .before .before .before .before .before .before .before .before .before .before .before .before .before .before .args .image .now) in omega (arith, q .sized .room)
+add-appended-to-b c = let q = c .before .before .before .before .before .before .before .before .before .before .before .before .before .before .before .before .before .pre .1 .1 .1 .1 in let e = c .before .before .before .before .before .before .before .challenge-size .ensures .0 (c .before .before .before .before .before .before .before .before .before .before .before .before .before .before .before .before .before .args .image .now) in omega (arith, q .sized .room)
 
 appended-to-b-requires : tie.Need-appended-to-b-requires
-appended-to-b-requires c κs = let q = c .before .before .before .before .before .before .before .before .before .before .before .before .before .before .before .before .before .pre .1 .1 .1 .1 in let e = c .before .before .before .before .before .before .before .challenge-size .ensures (c .before .before .before .before .before .before .before .before .before .before .before .before .before .before .before .before .before .args .image .now) in (c .before .before .before .before .before .before .before .before .before .before .before .before .before .before .before .before .before .pre .1 .0, (omega (arith, q .sized .room), omega (arith, q .sized .room)))
+appended-to-b-requires c κs = let q = c .before .before .before .before .before .before .before .before .before .before .before .before .before .before .before .before .before .pre .1 .1 .1 .1 in let e = c .before .before .before .before .before .before .before .challenge-size .ensures .0 (c .before .before .before .before .before .before .before .before .before .before .before .before .before .before .before .before .before .args .image .now) in (c .before .before .before .before .before .before .before .before .before .before .before .before .before .before .before .before .before .pre .1 .0, (omega (arith, q .sized .room), omega (arith, q .sized .room)))
 
 same-length : tie.Need-same-length
 same-length c = search needs
@@ -64,7 +65,7 @@ returns c = λ k rd.
     let n = c .before .before .before .before .before .before .before .before .challenge-size .result in
     let s = c .before .before .before .before .before .before .before .signature-size .result in
     let m = challengeBytes k (a .nonce .now) (a .slot .0) (a .x) in
-    let e : n ≡ challengeSize (factsOf k) (a .x) = c .before .before .before .before .before .before .before .before .challenge-size .ensures (a .image .now) ∙ ap (λ (g : Facts). challengeSize g (a .x)) f in
+    let e : n ≡ challengeSize (factsOf k) (a .x) = c .before .before .before .before .before .before .before .before .challenge-size .ensures .0 (a .image .now) ∙ ap (λ (g : Facts). challengeSize g (a .x)) f in
     let g : s ≡ signatureSize (k .signature) = c .before .before .before .before .before .before .before .signature-size .ensures .0 ∙ ap sigSize f in
     let l : length m ≡ n = challenge-length k (valid y rd) (a .nonce .now) (a .slot .0) (a .x) (p .1 .1 .1 .0) (subst (λ (h : Facts). 0 < h .chainLength (a .slot .0)) f (q .filled)) (λ t. subst (λ (h : Facts). 0 < h .measurements) f (q .measured t)) ∙ sym e in
     let z = challenge-most k (a .x) in

@@ -9,7 +9,8 @@ use Rattle.wire.specs.Pick.{pick}
 use Rattle.model.specs.Effects.{effectOf}
 use Rattle.model.specs.declared.Reply.the-variants as reply
 use Rattle.responder.proofs.Accepts.{accepted, whole-front, exchange-length, same-state}
-use Rattle.responder.proofs.Given.{valid, facts, known-fine}
+use Rattle.image.proofs.Given.{valid, known-fine}
+use Rattle.model.proofs.SameFacts.{facts}
 use Rattle.model.specs.Facts.{factsOf}
 use Rattle.model.specs.Digests.{digestsSize, digestsBytes}
 use Rattle.model.proofs.Lengths.{digests-length, digests-most}
@@ -21,7 +22,7 @@ write-digests-requires : tie.Need-write-digests-requires
 write-digests-requires c κs = known-fine (λ i. c .before .before .before .before .shared-slice-known .given i .fits) (c .before .before .before .before .before .pre .0)
 
 digests-size-requires : tie.Need-digests-size-requires
-digests-size-requires c κs = known-fine (λ i. c .before .before .before .before .before .before .before .shared-slice-known .given i .fits) (c .before .before .before .before .before .before .before .before .pre .0)
+digests-size-requires c κs = search needs
 
 cast-append : tie.Need-cast-append
 cast-append c = search needs
@@ -33,10 +34,10 @@ append-requires : tie.Need-append-requires
 append-requires c κs = let p = c .before .before .before .before .before .before .before .before .before .before .before .before .pre in (p .1 .1 .1 .long, omega (arith, p .1 .0 .b))
 
 add-appended-to-b : tie.Need-add-appended-to-b
-add-appended-to-b c = let q = c .before .before .before .before .before .before .before .before .before .before .before .before .before .before .before .pre .1 .1 .1 in let e = c .before .before .before .before .before .before .digests-size .ensures (c .before .before .before .before .before .before .before .before .before .before .before .before .before .before .before .args .image .now) in omega (arith, q .sized .room)
+add-appended-to-b c = let q = c .before .before .before .before .before .before .before .before .before .before .before .before .before .before .before .pre .1 .1 .1 in let e = c .before .before .before .before .before .before .digests-size .ensures .0 (c .before .before .before .before .before .before .before .before .before .before .before .before .before .before .before .args .image .now) in omega (arith, q .sized .room)
 
 appended-to-b-requires : tie.Need-appended-to-b-requires
-appended-to-b-requires c κs = let q = c .before .before .before .before .before .before .before .before .before .before .before .before .before .before .before .pre .1 .1 .1 in let e = c .before .before .before .before .before .before .digests-size .ensures (c .before .before .before .before .before .before .before .before .before .before .before .before .before .before .before .args .image .now) in (c .before .before .before .before .before .before .before .before .before .before .before .before .before .before .before .pre .1 .0, (omega (arith, q .sized .room), omega arith))
+appended-to-b-requires c κs = let q = c .before .before .before .before .before .before .before .before .before .before .before .before .before .before .before .pre .1 .1 .1 in let e = c .before .before .before .before .before .before .digests-size .ensures .0 (c .before .before .before .before .before .before .before .before .before .before .before .before .before .before .before .args .image .now) in (c .before .before .before .before .before .before .before .before .before .before .before .before .before .before .before .pre .1 .0, (omega (arith, q .sized .room), omega arith))
 
 same-length : tie.Need-same-length
 same-length c = search needs
@@ -53,7 +54,7 @@ returns c = λ k nonce rd.
     let v = valid y rd in
     let n = c .before .before .before .before .before .before .before .digests-size .result in
     let m = digestsBytes k in
-    let e : n ≡ digestsSize (factsOf k) = c .before .before .before .before .before .before .before .digests-size .ensures (a .image .now) ∙ ap digestsSize (facts y rd) in
+    let e : n ≡ digestsSize (factsOf k) = c .before .before .before .before .before .before .before .digests-size .ensures .0 (a .image .now) ∙ ap digestsSize (facts y rd) in
     let l : length m ≡ n = digests-length k v ∙ sym e in
     let z = digests-most k v in
     accepted (a .s) _ _ _ _ (a .request .now) m m 4 n _ _ refl l (whole-front m n l) (c .before .before .before .before .before .before .before .before .before .before .write-digests .ensures k rd) (omega arith) (omega arith) _ refl (c .before .before .before .append .ensures) (ap reply.Answer (sym l))

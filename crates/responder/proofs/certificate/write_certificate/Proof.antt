@@ -7,7 +7,7 @@ use Rattle.wire.specs.Bytes.{Bytes, part}
 use Rattle.wire.proofs.Laws.{splice-append}
 use Rattle.image.specs.Held.{slotChain}
 use Rattle.model.specs.Certificate.{certificateBytes}
-use Rattle.responder.proofs.Given.{held}
+use Rattle.image.proofs.Given.{held}
 use Rattle.responder.proofs.certificate.write_certificate.Statement.{statement}
 use Rattle.responder.proofs.certificate.write_certificate.Tie as tie
 

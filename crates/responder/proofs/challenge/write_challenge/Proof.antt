@@ -8,9 +8,9 @@ use Rattle.image.specs.Sizes.{signatureSize}
 use Rattle.image.specs.Held.{slotDigest, slotMask}
 use Rattle.model.specs.Limits.{version12}
 use Rattle.model.specs.Challenge.{challengeBytes, summaryOf}
-use Rattle.responder.proofs.SlotLaws.{digest-short}
+use Rattle.image.proofs.SlotLaws.{digest-short}
 use Rattle.responder.proofs.ChallengeLaws.{challenge-run}
-use Rattle.responder.proofs.Found.{signature-is, digest-is, mask-is, tcb-is, full-is}
+use Rattle.image.proofs.Found.{signature-is, digest-is, mask-is, tcb-is, full-is}
 use borrow.Author.Needs.{needs}
 use Rattle.responder.proofs.challenge.write_challenge.Statement.{statement}
 use Rattle.responder.proofs.challenge.write_challenge.Tie as tie

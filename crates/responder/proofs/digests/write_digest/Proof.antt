@@ -7,7 +7,7 @@ use lib.ListN.{length}
 use borrow.Author.Needs.{needs}
 use Rattle.wire.specs.Bytes.{splice}
 use Rattle.image.specs.Index.{digestAt}
-use Rattle.responder.proofs.SlotLaws.{slot-in, no-digest}
+use Rattle.image.proofs.SlotLaws.{slot-in, no-digest}
 use Rattle.responder.proofs.digests.write_digest.Statement.{statement}
 use Rattle.responder.proofs.digests.write_digest.Tie as tie
 

@@ -14,9 +14,9 @@ use Rattle.image.specs.Limits.{slotCount}
 use Rattle.image.specs.Sizes.{digestMost}
 use Rattle.model.specs.Digests.{joinedDigests, digestsBytes}
 use Rattle.model.specs.Limits.{headerLength}
-use Rattle.responder.proofs.Given.{valid, held}
+use Rattle.image.proofs.Given.{valid, held}
 use Rattle.responder.proofs.DigestLaws.{joinedFrom, one-more, no-more, joined-all}
-use Rattle.responder.proofs.SlotLaws.{digest-short}
+use Rattle.image.proofs.SlotLaws.{digest-short}
 use Rattle.responder.proofs.digests.write_digests.Statement.{statement}
 use Rattle.responder.proofs.digests.write_digests.Tie as tie
 

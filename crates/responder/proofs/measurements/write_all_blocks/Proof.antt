@@ -12,9 +12,9 @@ use Rattle.wire.proofs.Laws.{splice-length}
 use Rattle.image.specs.Sizes.{digestSize}
 use Rattle.image.specs.Contents.{Contents, Measurement}
 use Rattle.model.specs.Measurements.{blocksOf}
-use Rattle.responder.specs.Read.{ReadAs, Fine}
-use Rattle.responder.proofs.Given.{valid, known-fine}
-use Rattle.responder.proofs.Found.{size-is, count-is, nth-is}
+use Rattle.image.specs.Read.{ReadAs, Fine}
+use Rattle.image.proofs.Given.{valid, known-fine}
+use Rattle.image.proofs.Found.{size-is, count-is, nth-is}
 use Rattle.responder.proofs.MeasurementsLaws.{blocks-few, nth-length, block-after}
 use Rattle.responder.proofs.measurements.write_all_blocks.Statement.{statement}
 use Rattle.responder.proofs.measurements.write_all_blocks.Tie as tie

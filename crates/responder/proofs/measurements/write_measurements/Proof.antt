@@ -8,9 +8,10 @@ use Rattle.wire.specs.Bytes.{Bytes}
 use Rattle.model.specs.Facts.{factsOf}
 use Rattle.model.specs.Measurements.{operationFits, blockCount, signatureOf, recordOf, countShown, slotShown, measurementsBytes}
 use Rattle.model.proofs.Lengths.{record-length}
-use Rattle.responder.specs.Read.{Fine}
-use Rattle.responder.proofs.Given.{valid, facts, known-fine}
-use Rattle.responder.proofs.Found.{size-is, count-is}
+use Rattle.image.specs.Read.{Fine}
+use Rattle.image.proofs.Given.{valid, known-fine}
+use Rattle.model.proofs.SameFacts.{facts}
+use Rattle.image.proofs.Found.{size-is, count-is}
 use Rattle.responder.proofs.MeasurementsLaws.{few-blocks, blocks-few, measurements-run}
 use borrow.Author.Needs.{needs}
 use Rattle.responder.proofs.measurements.write_measurements.Statement.{statement}

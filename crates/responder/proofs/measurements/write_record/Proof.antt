@@ -4,9 +4,10 @@ use native.Mathlib.Omega.{arith}
 use lib.ListN.{length}
 use Rattle.wire.specs.Bytes.{splice, Bytes}
 use Rattle.image.specs.Contents.{Contents}
-use Rattle.responder.specs.Read.{ReadAs}
-use Rattle.responder.proofs.Given.{valid, facts}
-use Rattle.responder.proofs.Found.{size-is, one-is}
+use Rattle.image.specs.Read.{ReadAs}
+use Rattle.image.proofs.Given.{valid}
+use Rattle.model.proofs.SameFacts.{facts}
+use Rattle.image.proofs.Found.{size-is, one-is}
 use Rattle.responder.proofs.MeasurementsLaws.{asked-length}
 use borrow.Author.Needs.{needs}
 use Rattle.responder.proofs.measurements.write_record.Statement.{statement}

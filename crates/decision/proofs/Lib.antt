@@ -1,0 +1,3 @@
+pub mod AlgorithmLaws
+pub mod IndexLaws
+pub mod MeasurementsLaws

@@ -1,0 +1,82 @@
+// The paper's limits and codes; specs/Limits.antt has each with its sentence.
+pub const MESSAGE_LIMIT: usize = 4608;
+
+pub const TRANSCRIPT_LENGTH: usize = 16384;
+
+pub const A_LIMIT: u32 = 512;
+
+pub const B_LIMIT: u32 = 8192;
+
+pub const M_LIMIT: u32 = 7680;
+
+pub const B_START: usize = 512;
+
+pub const M_START: usize = 8704;
+
+pub const NONCE_LENGTH: usize = 32;
+
+pub const PEER_LEAST: u32 = 42;
+
+pub const PHASE_LIMIT: u32 = 3;
+
+pub const VERSION_USED: u32 = 12;
+
+pub const CAPABILITIES_USED: u32 = 52;
+
+pub const HEADER_LENGTH: usize = 4;
+
+pub const CAPABILITIES_LAYOUT: usize = 20;
+
+pub const ALGORITHMS_LEAST: usize = 32;
+
+pub const ALGORITHMS_MOST: usize = 128;
+
+pub const CERTIFICATE_LAYOUT: usize = 8;
+
+pub const CERTIFICATE_HEAD: usize = 8;
+
+pub const CHALLENGE_LAYOUT: usize = 36;
+
+pub const SIGNED_LAYOUT: usize = 37;
+
+pub const TYPE_LEAST: u8 = 2;
+
+pub const TYPE_MOST: u8 = 5;
+
+pub const PORTION_LIMIT: usize = 1024;
+
+pub const VERSION_10: u8 = 0x10;
+
+pub const VERSION_12: u8 = 0x12;
+
+pub const INVALID_REQUEST: u8 = 0x01;
+
+pub const BUSY: u8 = 0x03;
+
+pub const UNEXPECTED_REQUEST: u8 = 0x04;
+
+pub const UNSPECIFIED: u8 = 0x05;
+
+pub const UNSUPPORTED_REQUEST: u8 = 0x07;
+
+pub const RESPONSE_TOO_LARGE: u8 = 0x0D;
+
+pub const REQUEST_TOO_LARGE: u8 = 0x0E;
+
+pub const VERSION_MISMATCH: u8 = 0x41;
+
+pub const SHORT_ANSWER: u32 = 11;
+
+pub const SHORT_TRANSCRIPT: u32 = 12;
+
+pub const WRONG_NONCE: u32 = 13;
+
+pub const WRONG_STATE: u32 = 14;
+
+pub const NOTHING_AWAITED: u32 = 15;
+
+pub const WRONG_SIGNATURE: u32 = 16;
+
+pub const AWAITS_CHALLENGE: u32 = 1;
+
+pub const AWAITS_MEASUREMENTS: u32 = 2;

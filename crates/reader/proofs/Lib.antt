@@ -1,0 +1,4 @@
+pub mod Enums
+pub mod Frames
+pub mod First
+pub mod Turns

@@ -1,0 +1,28 @@
+-- The tests are made in the definition's order, so the tests that led to each return pick its case. Assumes nothing.
+use Rattle.wire.proofs.Picks.{picks}
+use Rattle.image.specs.Reading.{summaryFault}
+use borrow.Author.Needs.{needs}
+use Rattle.reader.proofs.summary_fault.Statement.{statement}
+use Rattle.reader.proofs.summary_fault.Tie as tie
+
+returns : tie.Need-returns
+unfolding summaryFault
+returns c = search picks depth 14
+
+returns-2 : tie.Need-returns-2
+unfolding summaryFault
+returns-2 c = search picks depth 14
+
+add-if3 : tie.Need-add-if3
+add-if3 c = search needs
+
+returns-3 : tie.Need-returns-3
+unfolding summaryFault
+returns-3 c = search picks depth 14
+
+returns-4 : tie.Need-returns-4
+unfolding summaryFault
+returns-4 c = search picks depth 14
+
+pub summary-fault-spec : {M : Type 1} → statement M
+summary-fault-spec = tie.close (tie.spec returns returns-2 add-if3 returns-3 returns-4)

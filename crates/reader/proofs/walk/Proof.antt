@@ -1,0 +1,94 @@
+-- At each turn the image reads as what was read so far with the records from here on (`Reached`). A good record moves that on by one; the end
+-- and a refusal settle what the image reads as. The bytes left fall with each record. Assumes nothing.
+use mathlib.Core.Path.{sym, _∙_}
+use Prim.Native.Nat.{_-_}
+use borrow.Author.Needs.{needs}
+use native.Mathlib.Omega.{arith}
+use lib.ListN.{length}
+use Rattle.reader.specs.Steps.{identityAt}
+use Rattle.reader.proofs.Enums.{record-end}
+use Rattle.reader.proofs.Turns.{Reached, reached-first, reached-refused, reached-end, reached-next, good-within, good-slot, small-size, few}
+use Rattle.reader.proofs.walk.Statement.{statement}
+use Rattle.reader.proofs.walk.Tie as tie
+
+abbrev Inv-loop : tie.InvT-loop
+Inv-loop s exponent hash signature at₀ size w₀ places₀ at w places = Reached s (identityAt exponent hash signature) at w places
+
+abbrev μ-loop : tie.MeasureT-loop
+μ-loop s exponent hash signature at₀ size w₀ places₀ at w places = length s - at
+
+digest-size-requires : tie.Need-digest-size-requires Inv-loop μ-loop
+digest-size-requires c κs = search needs
+
+loop-holds : tie.Need-loop-holds Inv-loop μ-loop
+loop-holds c = reached-first _ _ _ _ _ (c .before .before .pre .1) (c .digest-size .ensures .0)
+
+read-record-requires : tie.Need-read-record-requires Inv-loop μ-loop
+read-record-requires c κs = small-size (c .loop .inv)
+
+enum-known-r : tie.Need-enum-known-r Inv-loop μ-loop
+enum-known-r c = search needs
+
+enum-known-r-2 : tie.Need-enum-known-r-2 Inv-loop μ-loop
+enum-known-r-2 c = search needs
+
+accepted-requires : tie.Need-accepted-requires Inv-loop μ-loop
+accepted-requires c κs = search needs
+
+refused-requires : tie.Need-refused-requires Inv-loop μ-loop
+refused-requires c κs = search needs
+
+places-after-requires : tie.Need-places-after-requires Inv-loop μ-loop
+places-after-requires c κs =
+    let e = sym (c .before .before .before .read-record .ensures) ∙ c .before .r .given .1 in
+    let i = good-within (c .before .before .before .before .loop .inv) _ _ _ _ e in
+    (omega arith, good-slot (c .before .before .before .before .loop .inv) _ _ _ _ e)
+
+seen-after-requires : tie.Need-seen-after-requires Inv-loop μ-loop
+seen-after-requires c κs = few (c .before .before .before .before .before .loop .inv)
+
+add-at : tie.Need-add-at Inv-loop μ-loop
+add-at c =
+    let e = sym (c .before .before .before .before .before .read-record .ensures) ∙ c .before .before .before .r .given .1 in
+    let i = good-within (c .before .before .before .before .before .before .loop .inv) _ _ _ _ e in
+    omega arith
+
+loop-less : tie.Need-loop-less Inv-loop μ-loop
+loop-less c =
+    let e = sym (c .before .before .before .before .before .read-record .ensures) ∙ c .before .before .before .r .given .1 in
+    let i = good-within (c .before .before .before .before .before .before .loop .inv) _ _ _ _ e in
+    omega arith
+
+loop-again : tie.Need-loop-again Inv-loop μ-loop
+loop-again c =
+    let e = sym (c .before .before .before .before .before .read-record .ensures) ∙ c .before .before .before .r .given .1 in
+    rw (c .seen-after .ensures, c .before .places-after .ensures) (reached-next (c .before .before .before .before .before .before .loop .inv) _ _ _ _ e)
+
+returns : tie.Need-returns Inv-loop μ-loop
+returns c =
+    let r = c .before .before .before .read-record in
+    c .accepted .ensures ∙ reached-end (c .before .before .before .before .loop .inv) (sym (r .ensures) ∙ record-end (r .result) (c .before .match2 .keys2) (c .before .before .match .keys2))
+
+returns-2 : tie.Need-returns-2 Inv-loop μ-loop
+returns-2 c = c .refused .ensures ∙ reached-refused (c .before .before .before .before .before .before .loop .inv) _ (sym (c .before .before .before .before .before .read-record .ensures) ∙ c .before .before .r2 .given .1)
+
+pub walk-spec : {M : Type 1} → statement M
+walk-spec =
+    tie.close
+    (tie.spec
+    Inv-loop
+    μ-loop
+    digest-size-requires
+    loop-holds
+    read-record-requires
+    enum-known-r
+    enum-known-r-2
+    accepted-requires
+    refused-requires
+    places-after-requires
+    seen-after-requires
+    add-at
+    loop-less
+    loop-again
+    returns
+    returns-2)

@@ -1,0 +1,70 @@
+-- What the reader's own pieces answer: one record at a place, and what is carried past a good one. The promises do not rest on this file.
+use mathlib.Core.List.{List, []}
+use Prim.Native.Nat.{ℕ, _+_, _-_}
+use lib.ListN.{length, getD, set, drop}
+use lib.Dec.{ltb, leb, eqb}
+use Rattle.wire.specs.Bytes.{beAt, part}
+use Rattle.wire.specs.Pick.{pick}
+use Rattle.image.specs.Limits.{headLength, brokenRecord, chainKind, measurementKind, wrongKind, identityKind}
+use Rattle.image.specs.Contents.{Contents}
+use Rattle.image.specs.Reading.{Frames, framesOf, recordFault, endFault, identityFault}
+use Rattle.image.specs.declared.Seen.{Seen}
+use Rattle.reader.specs.declared.Places.{Places}
+use Rattle.image.specs.declared.Index.{Index}
+use Rattle.reader.specs.declared.Frame.{Frame}
+use Rattle.reader.specs.declared.Frame.the-variants as frame
+use Rattle.reader.specs.declared.Record.{Record}
+use Rattle.reader.specs.declared.Record.the-variants as rec
+
+-- the records from a place on
+unfoldable pub framesAt : List ℕ → ℕ → Frames
+framesAt b at = framesOf (length b - at) (drop at b)
+
+-- the record at a place, as its kind, the place of its body and the body's length
+unfoldable pub frameAt : List ℕ → ℕ → Frame
+frameAt b at =
+    pick (leb (length b) at) frame.End
+    (pick (ltb (length b - at) headLength) frame.Broken
+    (pick (ltb (length b - at - headLength) (beAt 2 b at)) frame.Broken
+    (frame.Whole (getD b (at + 2) 0) (at + headLength) (beAt 2 b at))))
+
+-- a record at a place, held against those before it
+unfoldable pub recordOf : List ℕ → Seen → Frame → Record
+recordOf b w frame.End = pick (eqb (endFault w) 0) rec.End (rec.Refused (endFault w))
+recordOf b w frame.Broken = rec.Refused brokenRecord
+recordOf b w (frame.Whole kind start len) =
+    pick (eqb (recordFault w kind (part b start len)) 0)
+    (rec.Good kind (getD (part b start len) 0 0) start len)
+    (rec.Refused (recordFault w kind (part b start len)))
+
+-- contents of which only the identity was read
+abbrev pub identityAt : ℕ → ℕ → ℕ → Contents
+identityAt exponent hash signature = record { exponent = exponent; hash = hash; signature = signature; chains = []; measurements = []; summaries = [] }
+
+-- what is carried past a good record with that key, and where the records stand
+abbrev pub seenAfter : Seen → ℕ → ℕ → Seen
+seenAfter w kind key =
+    pick (eqb kind chainKind)
+    (record { size = w .size; chains = w .chains + 1; slot = key; measurements = w .measurements; index = w .index; summaries = w .summaries })
+    (pick (eqb kind measurementKind)
+    (record { size = w .size; chains = w .chains; slot = w .slot; measurements = w .measurements + 1; index = key; summaries = w .summaries })
+    (record { size = w .size; chains = w .chains; slot = w .slot; measurements = w .measurements; index = w .index; summaries = w .summaries + 1 }))
+
+abbrev pub placesAfter : Places → Seen → ℕ → ℕ → ℕ → Places
+placesAfter p w kind key start =
+    pick (eqb kind chainKind)
+    (record { bodies = set (p .bodies) key start; first = p .first })
+    (pick (eqb kind measurementKind)
+    (pick (eqb (w .measurements) 0) (record { bodies = p .bodies; first = start }) p)
+    p)
+
+abbrev pub indexFrom : ℕ → ℕ → ℕ → Seen → Places → Index
+indexFrom exponent hash signature w p = record {
+  exponent = exponent;
+  hash = hash;
+  signature = signature;
+  chains = w .chains;
+  measurements = w .measurements;
+  places = p .bodies;
+  first = p .first;
+}
