@@ -15,9 +15,13 @@ use Rattle.model.specs.declared.Reply.the-variants as reply
 abbrev pub stateWords : ℕ
 stateWords = 8
 
--- a state that is out of bounds for every image: phase 4
+-- a phase that there is not
+abbrev pub noPhase : ℕ
+noPhase = 4
+
+-- a state that is out of bounds for every image
 abbrev pub noState : State
-noState = record { phase = 4; peer = 0; selection = 0; a = 0; b = 0; m = 0; awaited = 0; answer = 0 }
+noState = record { phase = noPhase; peer = 0; selection = 0; a = 0; b = 0; m = 0; awaited = 0; answer = 0 }
 
 -- the state that the words hold; any other number of words holds a state that is out of bounds
 unfoldable pub stateIn : List ℕ → State
@@ -42,9 +46,12 @@ wordsOf s = s .phase ∷ s .peer ∷ s .selection ∷ s .a ∷ s .b ∷ s .m ∷
 unfoldable pub wordsAfter : List ℕ → State → List ℕ
 wordsAfter w s = pick (eqb (length w) stateWords) (wordsOf s) w
 
+abbrev pub numberUnit : ℕ
+numberUnit = 65536
+
 -- "number · 65,536 + answer length": with a number the length is 0, and with an answer the number
 abbrev pub resultOf : Reply → ℕ
-resultOf (reply.Number n) = n * 65536
+resultOf (reply.Number n) = n * numberUnit
 resultOf (reply.Answer n) = n
 
 -- a reply that a word has room for: a number of the table, or the length of a message

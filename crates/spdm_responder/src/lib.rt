@@ -3,6 +3,17 @@
 use image::Verdict;
 use model::Reply;
 use model::State;
+use model::limits::A_LIMIT;
+use model::limits::AWAITS_CHALLENGE;
+use model::limits::AWAITS_MEASUREMENTS;
+use model::limits::B_LIMIT;
+use model::limits::B_START;
+use model::limits::M_LIMIT;
+use model::limits::M_START;
+use model::limits::NOTHING_AWAITED;
+use model::limits::PHASE_LIMIT;
+use model::limits::SHORT_ANSWER;
+use model::limits::WRONG_STATE;
 ghost use mathlib.Core.Path.{_≡_};
 ghost use mathlib.Core.List.{[], _∷_};
 ghost use Prim.Native.Nat.{_≤_};
@@ -15,43 +26,25 @@ ghost use Rattle.spdm_responder.specs.Words.{noState, stateIn, wordsAfte
 ghost use Rattle.spdm_responder.specs.Calls.{Asked, Signed};
 ghost use Rattle.spdm_responder.specs.ToSign.{canShow, showReply, partsOf, Shown};
 
-// The paper's limits; model's specs/Limits.antt has each with its sentence.
+// The C interface's own sizes; those of the paper are model's.
 const STATE_WORDS: usize = 8;
 
 const PREFIX_LENGTH: usize = 100;
 
 const PART_WORDS: usize = 4;
 
-const PHASE_LIMIT: u32 = 3;
+const NUMBER_UNIT: u32 = 65536;
 
-const A_LIMIT: u32 = 512;
-
-const B_LIMIT: u32 = 8192;
-
-const M_LIMIT: u32 = 7680;
+const NO_PHASE: u32 = 4;
 
 const A_START: u32 = 0;
-
-const B_START: u32 = 512;
-
-const M_START: u32 = 8704;
-
-const AWAITS_CHALLENGE: u32 = 1;
-
-const AWAITS_MEASUREMENTS: u32 = 2;
-
-const SHORT_BUFFER: u32 = 11;
-
-const WRONG_STATE: u32 = 14;
-
-const NOTHING_AWAITED: u32 = 15;
 
 // A state that is out of bounds for every image.
 fn no_state() -> State
     ensures { λ r. ⌜ r ≡ noState ⌝ }
 {
     State {
-        phase: 4,
+        phase: NO_PHASE,
         peer: 0,
         selection: 0,
         a: 0,
@@ -104,7 +97,7 @@ fn result_of(r: Reply) -> u32
     ensures { λ n. ⌜ n ≡ resultOf r ⌝ }
 {
     match r {
-        Reply::Number(n) => n * 65536,
+        Reply::Number(n) => n * NUMBER_UNIT,
         Reply::Answer(n) => n as u32,
     }
 }
@@ -190,10 +183,10 @@ fn decide_show(s: State, prefix: usize, parts: usize) -> Reply
     ensures { λ r. ⌜ r ≡ showReply s prefix parts ⌝ }
 {
     if prefix < PREFIX_LENGTH {
-        return Reply::Number(SHORT_BUFFER);
+        return Reply::Number(SHORT_ANSWER);
     }
     if parts < PART_WORDS {
-        return Reply::Number(SHORT_BUFFER);
+        return Reply::Number(SHORT_ANSWER);
     }
     if !can_show(s) {
         return Reply::Number(WRONG_STATE);
@@ -220,11 +213,11 @@ fn write_parts(s: State, out: &mut [u32])
     ensures { λ _. ⌜ now (out .exit) ≡ splice (now (out .entry)) 0 (partsOf s) ⌝ }
 {
     if s.awaited == AWAITS_CHALLENGE {
-        write_four(out, A_START, s.a, B_START, s.b);
+        write_four(out, A_START, s.a, B_START as u32, s.b);
         return;
     }
     if s.awaited == AWAITS_MEASUREMENTS {
-        write_four(out, A_START, s.a, M_START, s.m);
+        write_four(out, A_START, s.a, M_START as u32, s.m);
     }
 }
 
@@ -236,7 +229,7 @@ pub extern "C" fn spdm_to_sign(state: &[u32], prefix: &mut [u8], parts: &mut [u3
     let s = state_in(state);
     let reply = decide_show(s, prefix.len(), parts.len());
     match reply {
-        Reply::Number(number) => number * 65536,
+        Reply::Number(number) => number * NUMBER_UNIT,
         Reply::Answer(length) => {
             signing::write_prefix(s.awaited, prefix);
             write_parts(s, parts);
@@ -253,7 +246,7 @@ pub extern "C" fn spdm_read_image(image: &[u8]) -> u32
     let read = reader::read_image(image);
     let verdict = read.verdict;
     match verdict {
-        Verdict::Refused(n) => n as u32 * 65536,
+        Verdict::Refused(n) => n as u32 * NUMBER_UNIT,
         Verdict::Accepted => 0,
     }
 }

@@ -8,6 +8,9 @@ use borrow.Author.Needs.{needs}
 use Rattle.spdm_responder.proofs.write_parts.Statement.{statement}
 use Rattle.spdm_responder.proofs.write_parts.Tie as tie
 
+cast-write-four : tie.Need-cast-write-four
+cast-write-four c = search needs
+
 write-four-requires : tie.Need-write-four-requires
 write-four-requires c κs = search needs
 
@@ -17,6 +20,9 @@ same-length c = search needs
 returns : tie.Need-returns
 unfolding partsOf
 returns c = c .before .before .write-four .ensures ∙ ap (splice _ 0) (search picks depth 8)
+
+cast-write-four-2 : tie.Need-cast-write-four-2
+cast-write-four-2 c = search needs
 
 write-four-requires-2 : tie.Need-write-four-requires-2
 write-four-requires-2 c κs = search needs
@@ -36,9 +42,11 @@ pub write-parts-spec : {M : Type 1} → statement M
 write-parts-spec =
     tie.close
     (tie.spec
+    cast-write-four
     write-four-requires
     same-length
     returns
+    cast-write-four-2
     write-four-requires-2
     same-length-2
     returns-2
