@@ -11,7 +11,6 @@ use lib.Dec.{eqb}
 use borrow.Author.Tests.{eqb-true, eqb-false, ne-eqb}
 use Rattle.wire.specs.Pick.{pick}
 use Rattle.wire.proofs.Picks.{picks, pick-yes, pick-no, either, not-first}
-use Rattle.wire.proofs.Table.{at}
 use Rattle.image.specs.Limits.{imageLimit, exponentLimit, hashLimit, signatureLimit, chainsLimit, measurementsLimit}
 use Rattle.image.specs.Sizes.{digestSize}
 use Rattle.image.specs.Contents.{Chain, Measurement, Summary, Contents, imageBytes, ValidChain, ValidMeasurement, ValidSummary, Rises, SlotsRise, slots, indices, Valid}

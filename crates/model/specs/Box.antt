@@ -1,16 +1,14 @@
 -- The box: a state, a lent transcript and a lent answer. It interprets the same effects as the plain box; the promises of the calls are here.
 use mathlib.Core.Path.{_≡_}
-use mathlib.Core.Bool.{Bool}
-use mathlib.Core.List.{List, [], _++_}
+use mathlib.Core.List.{List, []}
 use Prim.Native.Nat.{ℕ, _+_, _-_}
 use lib.ListN.{length}
 use lib.Dec.{eqb}
 use Rattle.wire.specs.Bytes.{part, splice}
 use Rattle.wire.specs.Pick.{pick}
-use Rattle.image.specs.Reading.{reading}
 use Rattle.model.specs.Limits.{aStart, bStart, mStart, aLimit, bLimit, mLimit, awaitsChallenge, awaitsMeasurements}
-use Rattle.model.specs.Effects.{Part, inA, inB, inM, partFor, keeps, Change, Effect, host, refuse, accept, effectBy, replyOf, bytesOf}
-use Rattle.model.specs.Signing.{finishBy, finishReply, failedBytes}
+use Rattle.model.specs.Effects.{Part, inA, inB, inM, partFor, keeps, Change, Effect, host, refuse, accept, replyOf, bytesOf}
+use Rattle.model.specs.Signing.{finishReply, failedBytes}
 use Rattle.model.specs.Plain.{samePart}
 use Rattle.model.specs.declared.State.{State}
 use Rattle.model.specs.declared.Outcome.{Outcome}

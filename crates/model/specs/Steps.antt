@@ -1,7 +1,7 @@
 -- "A request, checked in this order": steps 1–6, and steps 8 and 9 over an answer's size. Step 7 stands with each message.
 use mathlib.Core.Bool.{Bool, true, false}
 use mathlib.Core.List.{List}
-use Prim.Native.Nat.{ℕ, _+_}
+use Prim.Native.Nat.{ℕ}
 use lib.ListN.{length, getD}
 use lib.Dec.{ltb, eqb}
 use Rattle.wire.specs.Pick.{pick}

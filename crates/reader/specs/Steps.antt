@@ -5,9 +5,9 @@ use lib.ListN.{length, getD, set, drop}
 use lib.Dec.{ltb, leb, eqb}
 use Rattle.wire.specs.Bytes.{beAt, part}
 use Rattle.wire.specs.Pick.{pick}
-use Rattle.image.specs.Limits.{headLength, brokenRecord, chainKind, measurementKind, wrongKind, identityKind}
+use Rattle.image.specs.Limits.{headLength, brokenRecord, chainKind, measurementKind}
 use Rattle.image.specs.Contents.{Contents}
-use Rattle.image.specs.Reading.{Frames, framesOf, recordFault, endFault, identityFault}
+use Rattle.image.specs.Reading.{Frames, framesOf, recordFault, endFault}
 use Rattle.image.specs.declared.Seen.{Seen}
 use Rattle.reader.specs.declared.Places.{Places}
 use Rattle.image.specs.declared.Index.{Index}

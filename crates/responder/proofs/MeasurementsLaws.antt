@@ -1,33 +1,26 @@
 -- MEASUREMENTS: its blocks, each of 7 + H bytes, and its parts are written one behind the other. Assumes nothing.
 use mathlib.Core.Path.{_≡_, refl, sym, ap, _∙_}
 use mathlib.Core.List.{List, [], _∷_, _++_, map, append-assoc, append-nil}
-use mathlib.Core.Bool.{Bool, true, false}
+use mathlib.Core.Bool.{true}
 use Prim.Native.Nat.{ℕ, zero, suc, _+_, _*_, _/_, _%_, _≤_, _<_}
 use native.Mathlib.Omega.{arith}
 use native.Mathlib.Nat.{zero-mul, suc-mul, mul-le-mul}
 use native.Mathlib.Numerals.{add-one}
 use lib.ListN.{length, getD, take, drop, replicate, length-append, length-drop}
 use lib.Seq.{take-all}
-use lib.Dec.{ltb, eqb}
-use borrow.Author.Tests.{le-ltb, ltb-true}
+use borrow.Author.Tests.{ltb-true}
 use Rattle.wire.specs.Bytes.{splice, part, leBytes}
-use Rattle.wire.specs.Pick.{pick}
 use Rattle.wire.proofs.Laws.{splice-then}
 use Rattle.image.specs.Limits.{measurementsLimit}
 use Rattle.image.specs.Sizes.{digestSize, digestMost}
 use Rattle.image.specs.Contents.{Contents, Valid, Measurement, ValidMeasurement, Each, measurementBody}
 use Rattle.image.specs.Held.{measurementOf}
 use Rattle.image.specs.declared.MeasurementIndex.{MeasurementIndex}
-use Rattle.image.proofs.Sizes.{digest-most}
-use Rattle.model.specs.Limits.{headerLength, signedLayout, version12}
-use Rattle.model.specs.Facts.{Facts, factsOf, hashSize}
-use Rattle.model.specs.Steps.{param2, invalid}
-use Rattle.model.specs.Measurements.{asksSignature, signerSlot, operationOf, signerFits, operationFits, measurementsSized, operationStep, measurementsBy, measurementsDecision, layoutOf, blockCount, measurementsSize, blockBytes, blocksOf}
-use Rattle.model.specs.declared.State.{State}
+use Rattle.model.specs.Limits.{version12}
+use Rattle.model.specs.Facts.{factsOf}
+use Rattle.model.specs.Measurements.{operationFits, blockCount, blockBytes, blocksOf}
 use Rattle.model.specs.declared.Operation.{Operation}
 use Rattle.model.specs.declared.Operation.the-variants as operation
-use Rattle.model.specs.declared.Signer.{Signer}
-use Rattle.model.specs.declared.Signer.the-variants as signer
 use Rattle.model.proofs.Lengths.{block-length, present-length}
 use Rattle.responder.proofs.RunLaws.{splice-on, two-zeros}
 

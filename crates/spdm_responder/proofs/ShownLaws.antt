@@ -18,7 +18,6 @@ use Rattle.model.specs.Effects.{inA, inB, inM}
 use Rattle.model.specs.Signing.{prefixOf, toHash}
 use Rattle.model.specs.Box.{partIn, signedFirst, signedSecond}
 use Rattle.model.specs.declared.State.{State}
-use Rattle.model.specs.declared.Reply.the-variants as reply
 use Rattle.model.proofs.Tests.{awaited-told, all-at}
 use Rattle.model.proofs.Hashed.{hashed}
 use Rattle.spdm_responder.specs.ToSign.{prefixLength, partWords, showTests, canShow, partsOf}

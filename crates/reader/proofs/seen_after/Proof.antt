@@ -1,6 +1,5 @@
 -- The tests are made in the definition's order, so the tests that led to each return pick its case. Assumes nothing.
 use Rattle.wire.proofs.Picks.{picks}
-use Rattle.wire.specs.Pick.{pick}
 use borrow.Author.Needs.{needs}
 use Rattle.reader.proofs.seen_after.Statement.{statement}
 use Rattle.reader.proofs.seen_after.Tie as tie

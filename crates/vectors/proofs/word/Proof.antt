@@ -1,8 +1,6 @@
 use borrow.Author.Needs.{needs}
 use Rattle.vectors.proofs.word.Statement.{statement}
 use Rattle.vectors.proofs.word.Tie as tie
-use Rattle.vectors.proofs.word.Reads as reads
-use Rattle.vectors.proofs.word.Lts as lts
 use Rattle.vectors.proofs.find.Reads as find-reads
 use Rattle.vectors.proofs.word_start.Reads as word-start-reads
 use Rattle.wire.proofs.part_of.Reads as part-of-reads

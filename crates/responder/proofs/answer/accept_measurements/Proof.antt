@@ -5,13 +5,11 @@ use lib.ListN.{length}
 use Rattle.wire.specs.Bytes.{Bytes}
 use Rattle.wire.specs.Pick.{pick}
 use Rattle.model.specs.Effects.{effectOf}
-use Rattle.model.specs.declared.Reply.the-variants as reply
 use Rattle.responder.proofs.Accepts.{measured-responded}
-use Rattle.image.proofs.Given.{valid, known-fine}
+use Rattle.image.proofs.Given.{valid}
 use Rattle.model.proofs.SameFacts.{facts}
 use Rattle.model.specs.Facts.{Facts, factsOf}
 use Rattle.model.specs.Measurements.{signatureOf, measurementsSize, measurementsBytes, operationFits}
-use Rattle.model.specs.declared.Signer.the-variants as signer
 use Rattle.model.proofs.Lengths.{measurements-length, measurements-most}
 use mathlib.Core.Bool.{true}
 use borrow.Author.Needs.{needs}
