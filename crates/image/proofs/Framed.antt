@@ -11,6 +11,7 @@ use lib.Dec.{eqb}
 use borrow.Author.Tests.{ltb-false, eqb-true, ne-eqb}
 use Rattle.wire.specs.Bytes.{Bytes, beAt, beBytes}
 use Rattle.wire.proofs.Picks.{either, picks}
+use Rattle.image.specs.Limits.{headLength}
 use Rattle.image.specs.Contents.{recordBytes}
 use Rattle.image.specs.Reading.{Frames, ended, broken, frame, framesOf}
 
@@ -25,6 +26,11 @@ abbrev pub Whole : Frames → Type 0
 Whole ended = Unit {0}
 Whole broken = ⊥
 Whole (frame kind body rest) = (length body < 65536) × Whole rest
+
+-- a record's bytes are its head and its body
+pub record-length : (kind : ℕ) (body : List ℕ) → length (recordBytes kind body) ≡ headLength + length body
+unfolding recordBytes
+record-length kind body = omega arith
 
 -- what is joined is taken apart again
 pub apart : (n : ℕ) (f : Frames) → Whole f → length (joined f) ≤ n → f ≡ framesOf n (joined f)

@@ -190,6 +190,9 @@ grown c kind body s e =
 pub number-found : {A : Type 0} (k : ℕ) (x : A) → number k ≡ found x → ⊥
 number-found k x e = let z : _≡_ {A = ℕ} 0 1 = cc in omega arith
 
+pub found-same : {A : Type 0} (x y : A) → found x ≡ found y → x ≡ y
+found-same x y e = cc
+
 passed : {A : Type 0} (k : ℕ) (r : Result A) (x : A) → unless k r ≡ found x → (k ≡ 0) × (r ≡ found x)
 unfolding unless
 passed k r x e = let a = not-second _ _ _ _ e (number-found k x) in (eqb-true k 0 (a .0), a .1)
@@ -218,11 +221,7 @@ read-on : (c : Contents) (f : Frames) (z : Contents) → Sound c → readOn c f 
 unfolding readOn joined
 read-on c ended z s e =
     let p = passed _ _ _ e in
-    let same : c ≡ z = inner c z (p .1) in
-    subst (Taken (imageBytes c) ended) same (record { whole = tt; sound = s; complete = p .0; bytes = sym (append-nil (imageBytes c)) })
-  where
-    inner : (a b : Contents) → found a ≡ found b → a ≡ b
-    inner a b e = cc
+    subst (Taken (imageBytes c) ended) (found-same c z (p .1)) (record { whole = tt; sound = s; complete = p .0; bytes = sym (append-nil (imageBytes c)) })
 read-on c broken z s e = absurd (number-found _ _ e)
 read-on c (frame kind body rest) z s e =
     let p = passed _ _ _ e in

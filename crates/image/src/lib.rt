@@ -103,7 +103,7 @@ pub struct Image {
 
 // What the tests of a record need of the records before it.
 pub struct Seen {
-    pub size: usize,
+    pub size: u8,
     pub chains: u8,
     pub slot: u8,
     pub measurements: u8,

@@ -5,12 +5,13 @@ use mathlib.Core.List.{List, [], _∷_}
 use Prim.Native.Nat.{ℕ, _+_}
 use native.Mathlib.Omega.{arith}
 use lib.ListN.{length, getD}
-use borrow.Author.Tests.{eqb-true, ne-eqb}
+use borrow.Author.Tests.{ne-eqb}
 use Rattle.wire.specs.Bytes.{part}
 use Rattle.wire.proofs.Laws.{part-length}
-use Rattle.wire.proofs.Picks.{picks, not-second}
+use Rattle.wire.proofs.Picks.{picks}
 use Rattle.image.specs.Limits.{identityKind, identityEnd, wrongKind}
 use Rattle.image.specs.Reading.{number, unless, identityFault, identified, readOn, readAll}
+use Rattle.records.proofs.Lengths.{identity-length}
 use Rattle.reader.specs.Steps.{framesAt, frameAt}
 use Rattle.reader.specs.declared.Frame.{Frame}
 use Rattle.reader.specs.declared.Frame.the-variants as fr
@@ -18,10 +19,6 @@ use Rattle.reader.proofs.Frames.{followed, frames-read, whole-within}
 
 pub first-read : (b : List ℕ) (f : Frame) → frameAt b 1 ≡ f → readAll (followed b f) ≡ readAll (framesAt b 1)
 first-read b f e = ap (λ (g : Frame). readAll (followed b g)) (sym e) ∙ ap readAll (frames-read b 1)
-
-identity-length : (body : List ℕ) → identityFault body ≡ 0 → length body ≡ 3
-unfolding identityFault
-identity-length body f = eqb-true _ _ (not-second _ _ _ _ f (λ z. omega arith) .0)
 
 -- the three bytes of a good identity are its body
 pub identity-bytes : (body : List ℕ) → identityFault body ≡ 0 → body ≡ getD body 0 0 ∷ getD body 1 0 ∷ getD body 2 0 ∷ []

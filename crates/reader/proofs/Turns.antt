@@ -1,85 +1,83 @@
 -- The walk's turns. At each turn the image reads as what was read so far with the records from here on; a good record moves that on by one,
 -- and what the walk carries is read off the contents so far. Assumes nothing.
 use mathlib.Core.Path.{_≡_, refl, sym, ap, _∙_, subst}
-use mathlib.Core.List.{List, [], _∷_, _++_, map, append-nil}
-use Prim.Native.Nat.{ℕ, suc, _+_, _≤_, _<_}
+use mathlib.Core.List.{List, [], _∷_, _++_, append-nil}
+use Prim.Native.Nat.{ℕ, suc, _+_, _≤_}
 use native.Mathlib.Omega.{arith}
 use native.Mathlib.Nat.{add-zero}
 use lib.ListN.{length, getD, set, length-append}
 use lib.Dec.{eqb}
-use borrow.Author.Tests.{ltb-false, eqb-true, eq-eqb, ne-eqb}
+use borrow.Author.Tests.{eqb-true, ne-eqb}
 use Rattle.wire.specs.Bytes.{part}
 use Rattle.wire.specs.Pick.{pick}
 use Rattle.wire.proofs.Laws.{part-length}
-use Rattle.wire.proofs.Picks.{pick-map, pick-case, pick-yes, pick-no, when-true, when-false, not-first, either}
-use Rattle.image.specs.Sizes.{digestSize, digestMost}
-use Rattle.image.specs.Limits.{headLength, identityEnd, chainKind, slotLimit}
+use Rattle.wire.proofs.Picks.{pick-map, pick-case, pick-yes, pick-no, either}
+use Rattle.image.specs.Sizes.{digestSize}
+use Rattle.image.specs.Limits.{headLength, identityEnd, chainKind, measurementKind, slotLimit}
 use Rattle.image.specs.Contents.{Chain, Measurement, Contents, chainBody, recordBytes, recordsBytes, identityBytes, imageBytes}
-use Rattle.image.specs.Reading.{Result, number, found, unless, lastFrom, seen, identityFault, chainFault, measurementFault, recordFault, chainIn, measurementIn, addChain, addMeasurement, extended, readOn}
+use Rattle.image.specs.Reading.{Result, number, found, unless, seen, identityFault, recordFault, chainIn, measurementIn, addChain, addMeasurement, extended, readOn}
 use Rattle.image.specs.Index.{noPlaces, placesOf, firstOf, chainsEnd, indexOf, refusedBy, acceptedAt, answerOf}
-use Rattle.reader.specs.Steps.{framesAt, frameAt, recordOf, identityAt, seenAfter, placesAfter, indexFrom}
+use Rattle.reader.specs.Steps.{framesAt, frameAt, heldRecord, recordOf, identityAt, placesAfter, indexFrom}
 use Rattle.image.specs.declared.Seen.{Seen}
+use Rattle.records.specs.Records.{seenFirst, seenAfter, heldOf}
+use Rattle.records.specs.declared.Held.{Held}
+use Rattle.records.proofs.Rooms.{chain-fine, measurement-fine}
+use Rattle.records.proofs.Seeing.{seen-extended}
 use Rattle.reader.specs.declared.Places.{Places}
 use Rattle.reader.specs.declared.Frame.{Frame}
 use Rattle.reader.specs.declared.Frame.the-variants as fr
 use Rattle.reader.specs.declared.Record.{Record}
 use Rattle.reader.specs.declared.Record.the-variants as rec
 use Rattle.reader.proofs.Frames.{followed, frames-read, whole-within}
-use Rattle.image.proofs.Framed.{empty}
+use Rattle.image.proofs.Framed.{record-length, empty}
 use Rattle.image.proofs.Sound.{Sound}
 use Rattle.image.proofs.Growth.{grown, identity-grown}
-use Rattle.image.proofs.Sizes.{digest-most}
 
 -- what the reading comes to, by the record that was read
 unfoldable pub concluded : List ℕ → Contents → Record → Result Contents
 concluded b c rec.End = found c
 concluded b c (rec.Refused k) = number k
-concluded b c (rec.Good kind key start len) = readOn (extended c kind (part b start len)) (framesAt b (start + len))
+concluded b c (rec.Good kind key start len next) = readOn (extended c kind (part b start len)) (framesAt b (start + len))
 
 framed : (b : List ℕ) (c : Contents) (f : Frame) → concluded b c (recordOf b (seen c) f) ≡ readOn c (followed b f)
-unfolding recordOf followed readOn concluded unless
+unfolding recordOf heldRecord heldOf followed readOn concluded unless
 framed b c fr.End = pick-map (concluded b c) _ _ _ _ _ (λ t. refl) (λ t. refl)
 framed b c fr.Broken = refl
-framed b c (fr.Whole kind start len) = pick-map (concluded b c) _ _ _ _ _ (λ t. refl) (λ t. refl)
+framed b c (fr.Whole kind start len) = pick-map (λ (h : Held). concluded b c (heldRecord kind (getD (part b start len) 0 0) start len h)) _ _ _ _ _ (λ t. refl) (λ t. refl)
 
 pub turn-read : (b : List ℕ) (c : Contents) (at : ℕ) → concluded b c (recordOf b (seen c) (frameAt b at)) ≡ readOn c (framesAt b at)
 turn-read b c at = framed b c (frameAt b at) ∙ ap (readOn c) (frames-read b at)
 
--- a good record is a whole frame without a fault
-pub record Taken (b : List ℕ) (w : Seen) (f : Frame) (kind key start len : ℕ) : Type 0 where
+-- a good record is a whole frame without a fault, and it carries what is seen past it
+pub record Taken (b : List ℕ) (w : Seen) (f : Frame) (kind key start len : ℕ) (next : Seen) : Type 0 where
   pub whole : f ≡ fr.Whole kind start len
   pub fine : recordFault w kind (part b start len) ≡ 0
   pub keyed : getD (part b start len) 0 0 ≡ key
+  pub seeing : next ≡ seenAfter w kind key
 
-pub taken : (b : List ℕ) (w : Seen) (f : Frame) (kind key start len : ℕ) → recordOf b w f ≡ rec.Good kind key start len → Taken b w f kind key start len
-unfolding recordOf
-taken b w fr.End kind key start len e =
-    either (Taken b w fr.End kind key start len) _ _ _ _ e
+pub taken : (b : List ℕ) (w : Seen) (f : Frame) (kind key start len : ℕ) (next : Seen) → recordOf b w f ≡ rec.Good kind key start len next → Taken b w f kind key start len next
+unfolding recordOf heldRecord heldOf
+taken b w fr.End kind key start len next e =
+    either (Taken b w fr.End kind key start len next) _ _ _ _ e
     (λ t g. let z : _≡_ {A = ℕ} 0 1 = cc in absurd (omega arith))
     (λ t g. let z : _≡_ {A = ℕ} 0 1 = cc in absurd (omega arith))
-taken b w fr.Broken kind key start len e = let z : _≡_ {A = ℕ} 0 1 = cc in absurd (omega arith)
-taken b w (fr.Whole k s l) kind key start len e =
-    either (Taken b w (fr.Whole k s l) kind key start len) _ _ _ _ e
+taken b w fr.Broken kind key start len next e = let z : _≡_ {A = ℕ} 0 1 = cc in absurd (omega arith)
+taken b w (fr.Whole k s l) kind key start len next e =
+    pick-case (λ (h : Held). heldRecord k (getD (part b s l) 0 0) s l h ≡ rec.Good kind key start len next → Taken b w (fr.Whole k s l) kind key start len next) _ _ _
     (λ t g.
     let ek : k ≡ kind = cc in
     let es : s ≡ start = cc in
     let el : l ≡ len = cc in
     let f : recordFault w k (part b s l) ≡ 0 = eqb-true (recordFault w k (part b s l)) 0 t in
     let y : getD (part b s l) 0 0 ≡ key = cc in
-    record { whole = cc; fine = rw (ek, es, el) at f; keyed = rw (es, el) at y })
+    let v : seenAfter w k (getD (part b s l) 0 0) ≡ next = cc in
+    record { whole = cc; fine = rw (ek, es, el) at f; keyed = rw (es, el) at y; seeing = sym (rw (y, ek) at v) })
     (λ t g. let z : _≡_ {A = ℕ} 0 1 = cc in absurd (omega arith))
+    e
 
 -- where the records of contents stand
 abbrev pub placed : Contents → Places
 placed c = record { bodies = placesOf (length (identityBytes c)) (c .chains) noPlaces; first = firstOf (chainsEnd c) (c .measurements) }
-
-pub last-more : {A : Type 0} (key : A → ℕ) (d : ℕ) (xs : List A) (x : A) → lastFrom d (map key (xs ++ (x ∷ []))) ≡ key x
-last-more key d [] x = refl
-last-more key d (y ∷ ys) x = last-more key (key y) ys x
-
-record-length : (kind : ℕ) (body : List ℕ) → length (recordBytes kind body) ≡ headLength + length body
-unfolding recordBytes
-record-length kind body = omega arith
 
 -- one more chain is stored at its slot, behind the chains before it
 places-more : (start : ℕ) (xs : List Chain) (x : Chain) (t : List ℕ)
@@ -100,23 +98,6 @@ chains-length c p q = simp (p, q, append-nil, length-append)
 
 measurements-start : (c : Contents) → c .measurements ≡ [] → c .summaries ≡ [] → length (imageBytes c) ≡ chainsEnd c
 measurements-start c p q = chains-length c p q ∙ sym (length-append (identityBytes c) (recordsBytes chainKind chainBody (c .chains)))
-
--- what the walk carries past a good record is read off the longer contents
-pub seen-extended : (c : Contents) (kind : ℕ) (body : List ℕ) → seen (extended c kind body) ≡ seenAfter (seen c) kind (getD body 0 0)
-unfolding extended
-seen-extended c kind body =
-    pick-map seen _ _ _ _ _
-    (λ t. simp (length-append, last-more (λ (x : Chain). x .slot) 0))
-    (λ t. pick-map seen _ _ _ _ _ (λ u. simp (length-append, last-more (λ (m : Measurement). m .index) 0)) (λ u. simp length-append))
-
--- a chain comes before any measurement, and a measurement before the summary
-chain-first : (c : Contents) (body : List ℕ) → chainFault (seen c) body ≡ 0 → length (c .measurements) ≤ 0
-unfolding chainFault
-chain-first c body e = ltb-false _ _ (not-first _ _ _ _ e (λ z. omega arith) .0)
-
-measurement-first : (c : Contents) (body : List ℕ) → measurementFault (seen c) body ≡ 0 → length (c .summaries) ≤ 0
-unfolding measurementFault
-measurement-first c body e = ltb-false _ _ (not-first _ _ _ _ (not-first _ _ _ _ e (λ z. omega arith) .1) (λ z. omega arith) .0)
 
 first-none : (n m : ℕ) (ms : List Measurement) → ms ≡ [] → firstOf n ms ≡ firstOf m ms
 unfolding firstOf
@@ -147,29 +128,15 @@ places-measurement c m start q e =
 
 pub places-extended : (c : Contents) (kind : ℕ) (body : List ℕ) (start : ℕ) → Sound c → recordFault (seen c) kind body ≡ 0 → start ≡ length (imageBytes c) + headLength
     → placed (extended c kind body) ≡ placesAfter (placed c) (seen c) kind (getD body 0 0) start
-unfolding extended recordFault identityBytes
+unfolding extended identityBytes
 places-extended c kind body start s f e =
     pick-map placed _ _ _ _ _
     (λ t.
-    let g : chainFault (seen c) body ≡ 0 = when-true _ _ _ _ f t in
-    let m : c .measurements ≡ [] = empty (c .measurements) (omega (arith, chain-first c body g)) in
-    places-chain c (chainIn (digestSize (c .hash)) body) start m (empty (c .summaries) (omega (arith, chain-first c body g, s .behind))) e)
+    let m : length (c .measurements) ≡ 0 = omega (arith, chain-fine (seen c) kind body f (eqb-true kind chainKind t) .first) in
+    places-chain c (chainIn (digestSize (c .hash)) body) start (empty (c .measurements) m) (empty (c .summaries) (omega (arith, s .behind))) e)
     (λ t. pick-map placed _ _ _ _ _
-    (λ u.
-    let g : measurementFault (seen c) body ≡ 0 = when-true _ _ _ _ (when-false _ _ _ _ f t) u in
-    places-measurement c (measurementIn body) start (empty (c .summaries) (omega (arith, measurement-first c body g))) e)
+    (λ u. places-measurement c (measurementIn body) start (empty (c .summaries) (omega (arith, measurement-fine (seen c) kind body f (eqb-true kind measurementKind u) .first))) e)
     (λ u. refl))
-
--- the slot of a chain without a fault
-slot-fits : (w : Seen) (kind : ℕ) (body : List ℕ) → recordFault w kind body ≡ 0 → kind ≡ chainKind → getD body 0 0 ≤ slotLimit
-unfolding recordFault chainFault
-slot-fits w kind body f e =
-    let a₀ = when-true _ _ _ _ f (eq-eqb kind chainKind e) in
-    let a₁ = not-first _ _ _ _ a₀ (λ z. omega arith) in
-    let a₂ = not-first _ _ _ _ (a₁ .1) (λ z. omega arith) in
-    let a₃ = not-first _ _ _ _ (a₂ .1) (λ z. omega arith) in
-    let a₄ = not-first _ _ _ _ (a₃ .1) (λ z. omega arith) in
-    ltb-false _ _ (not-first _ _ _ _ (a₄ .1) (λ z. omega arith) .0)
 
 -- a turn of the walk: what was read so far, and that all else follows from it
 pub record Reached (b : List ℕ) (c₀ : Contents) (at : ℕ) (w : Seen) (p : Places) : Type 0 where
@@ -184,18 +151,16 @@ pub record Reached (b : List ℕ) (c₀ : Contents) (at : ℕ) (w : Seen) (p : P
   pub signature : held .signature ≡ c₀ .signature
 
 -- before the first turn
-pub reached-first : (b : List ℕ) (exponent hash signature size : ℕ) → identityFault (exponent ∷ hash ∷ signature ∷ []) ≡ 0 → size ≡ digestSize hash
-    → Reached b (identityAt exponent hash signature) identityEnd
-    (record { size = size; chains = 0; slot = 0; measurements = 0; index = 0; summaries = 0 })
-    (record { bodies = noPlaces; first = 0 })
+pub reached-first : (b : List ℕ) (exponent hash signature : ℕ) → identityFault (exponent ∷ hash ∷ signature ∷ []) ≡ 0
+    → Reached b (identityAt exponent hash signature) identityEnd (seenFirst hash) (record { bodies = noPlaces; first = 0 })
 unfolding placesOf firstOf recordBytes
-reached-first b exponent hash signature size f e =
+reached-first b exponent hash signature f =
     let g = identity-grown (exponent ∷ hash ∷ signature ∷ []) f in
     record {
       held = identityAt exponent hash signature;
       same = refl;
       sound = g .sound;
-      seeing = rw e;
+      seeing = refl;
       places = refl;
       place = sym (ap length (g .bytes));
       exponent = refl;
@@ -231,29 +196,19 @@ module _ {b : List ℕ} {c₀ : Contents} {at : ℕ} {w : Seen} {p : Places} (r 
       let i : indexFrom (c₀ .exponent) (c₀ .hash) (c₀ .signature) w p ≡ indexOf (r .held) = cc in
       ap acceptedAt i ∙ sym (ap answerOf (here ∙ ap (concluded b (r .held)) e))
 
-  pub small-size : w .size ≤ digestMost
-  small-size = subst (λ (v : Seen). v .size ≤ digestMost) (sym (r .seeing)) (digest-most (r .held .hash))
-
-  pub few : (w .chains < 255) × ((w .measurements < 255) × (w .summaries < 255))
-  few =
-      let s = r .sound in
-      subst (λ (v : Seen). (v .chains < 255) × ((v .measurements < 255) × (v .summaries < 255))) (sym (r .seeing))
-      (omega (arith, s .chains .few), (omega (arith, s .measurements .few), omega (arith, s .summaries .few)))
-
-  module _ (kind key start len : ℕ) (e : recordOf b w (frameAt b at) ≡ rec.Good kind key start len) where
+  module _ (kind key start len : ℕ) (next : Seen) (e : recordOf b w (frameAt b at) ≡ rec.Good kind key start len next) where
     pub good-within : (start ≡ at + headLength) × (start + len ≤ length b)
-    good-within = whole-within b at kind start len (taken b w (frameAt b at) kind key start len e .whole)
+    good-within = whole-within b at kind start len (taken b w (frameAt b at) kind key start len next e .whole)
 
     pub good-slot : kind ≡ chainKind → key ≤ slotLimit
     good-slot k =
-        let t = taken b w (frameAt b at) kind key start len e in
-        let s = slot-fits w kind (part b start len) (t .fine) k in
-        subst (λ (n : ℕ). n ≤ slotLimit) (t .keyed) s
+        let t = taken b w (frameAt b at) kind key start len next e in
+        subst (λ (n : ℕ). n ≤ slotLimit) (t .keyed) (chain-fine w kind (part b start len) (t .fine) k .slot)
 
-    pub reached-next : Reached b c₀ (start + len) (seenAfter w kind key) (placesAfter p w kind key start)
+    pub reached-next : Reached b c₀ (start + len) next (placesAfter p w kind key start)
     unfolding concluded
     reached-next =
-        let t = taken b w (frameAt b at) kind key start len e in
+        let t = taken b w (frameAt b at) kind key start len next e in
         let c = r .held in
         let body = part b start len in
         let i = good-within in
@@ -269,7 +224,7 @@ module _ {b : List ℕ} {c₀ : Contents} {at : ℕ} {w : Seen} {p : Places} (r 
           held = extended c kind body;
           same = here ∙ ap (concluded b c) e;
           sound = g .sound;
-          seeing = ap (λ (v : Seen). seenAfter v kind key) (r .seeing) ∙ ap (seenAfter (seen c) kind) (sym (t .keyed)) ∙ sym (seen-extended c kind body);
+          seeing = t .seeing ∙ ap (λ (v : Seen). seenAfter v kind key) (r .seeing) ∙ ap (seenAfter (seen c) kind) (sym (t .keyed)) ∙ sym (seen-extended c kind body);
           places = ap (λ (v : Seen). placesAfter p v kind key start) (r .seeing) ∙ ap (λ (q : Places). placesAfter q (seen c) kind key start) (r .places)
               ∙ ap (λ (y : ℕ). placesAfter (placed c) (seen c) kind y start) (sym (t .keyed)) ∙ sym (places-extended c kind body start (r .sound) f a);
           place = omega arith;

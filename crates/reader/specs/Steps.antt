@@ -7,8 +7,11 @@ use Rattle.wire.specs.Bytes.{beAt, part}
 use Rattle.wire.specs.Pick.{pick}
 use Rattle.image.specs.Limits.{headLength, brokenRecord, chainKind, measurementKind}
 use Rattle.image.specs.Contents.{Contents}
-use Rattle.image.specs.Reading.{Frames, framesOf, recordFault, endFault}
+use Rattle.image.specs.Reading.{Frames, framesOf, endFault}
 use Rattle.image.specs.declared.Seen.{Seen}
+use Rattle.records.specs.Records.{heldOf}
+use Rattle.records.specs.declared.Held.{Held}
+use Rattle.records.specs.declared.Held.the-variants as held
 use Rattle.reader.specs.declared.Places.{Places}
 use Rattle.image.specs.declared.Index.{Index}
 use Rattle.reader.specs.declared.Frame.{Frame}
@@ -29,27 +32,20 @@ frameAt b at =
     (frame.Whole (getD b (at + 2) 0) (at + headLength) (beAt 2 b at))))
 
 -- a record at a place, held against those before it
+unfoldable pub heldRecord : ℕ → ℕ → ℕ → ℕ → Held → Record
+heldRecord kind key start len (held.Good next) = rec.Good kind key start len next
+heldRecord kind key start len (held.Fault k) = rec.Refused k
+
 unfoldable pub recordOf : List ℕ → Seen → Frame → Record
 recordOf b w frame.End = pick (eqb (endFault w) 0) rec.End (rec.Refused (endFault w))
 recordOf b w frame.Broken = rec.Refused brokenRecord
-recordOf b w (frame.Whole kind start len) =
-    pick (eqb (recordFault w kind (part b start len)) 0)
-    (rec.Good kind (getD (part b start len) 0 0) start len)
-    (rec.Refused (recordFault w kind (part b start len)))
+recordOf b w (frame.Whole kind start len) = heldRecord kind (getD (part b start len) 0 0) start len (heldOf w kind (part b start len))
 
 -- contents of which only the identity was read
 abbrev pub identityAt : ℕ → ℕ → ℕ → Contents
 identityAt exponent hash signature = record { exponent = exponent; hash = hash; signature = signature; chains = []; measurements = []; summaries = [] }
 
--- what is carried past a good record with that key, and where the records stand
-abbrev pub seenAfter : Seen → ℕ → ℕ → Seen
-seenAfter w kind key =
-    pick (eqb kind chainKind)
-    (record { size = w .size; chains = w .chains + 1; slot = key; measurements = w .measurements; index = w .index; summaries = w .summaries })
-    (pick (eqb kind measurementKind)
-    (record { size = w .size; chains = w .chains; slot = w .slot; measurements = w .measurements + 1; index = key; summaries = w .summaries })
-    (record { size = w .size; chains = w .chains; slot = w .slot; measurements = w .measurements; index = w .index; summaries = w .summaries + 1 }))
-
+-- where the records stand past a good one with that key
 abbrev pub placesAfter : Places → Seen → ℕ → ℕ → ℕ → Places
 placesAfter p w kind key start =
     pick (eqb kind chainKind)

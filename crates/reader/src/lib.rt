@@ -5,40 +5,24 @@ use image::Seen;
 use image::Verdict;
 use image::limits::BROKEN_RECORD;
 use image::limits::CHAIN_KIND;
-use image::limits::CHAIN_LEAST;
-use image::limits::CHAIN_LIMIT;
-use image::limits::CHAINS_LIMIT;
-use image::limits::EXPONENT_LIMIT;
-use image::limits::HASH_LIMIT;
 use image::limits::HEAD_LENGTH;
 use image::limits::IDENTITY_END;
 use image::limits::IDENTITY_KIND;
-use image::limits::IDENTITY_LENGTH;
 use image::limits::IMAGE_LIMIT;
 use image::limits::IMAGE_VERSION;
-use image::limits::INDEX_LIMIT;
 use image::limits::MEASUREMENT_KIND;
-use image::limits::MEASUREMENTS_LIMIT;
-use image::limits::SIGNATURE_LIMIT;
-use image::limits::SLOT_LIMIT;
-use image::limits::SUMMARY_KIND;
-use image::limits::TOO_MANY;
-use image::limits::TYPE_LIMIT;
-use image::limits::WRONG_FIELD;
 use image::limits::WRONG_KIND;
-use image::limits::WRONG_LENGTH;
-use image::limits::WRONG_OWN_LENGTH;
 use image::limits::WRONG_SIZE;
 use image::limits::WRONG_VERSION;
+use records::Held;
 ghost use mathlib.Core.Path.{_≡_};
 ghost use mathlib.Core.List.{[], _∷_};
-ghost use Prim.Native.Nat.{_<_, _≤_};
+ghost use Prim.Native.Nat.{_≤_};
 ghost use lib.ListN.{length};
 ghost use Rattle.image.specs.Limits.{imageLimit, slotLimit, chainKind, identityEnd};
-ghost use Rattle.image.specs.Sizes.{digestMost};
-ghost use Rattle.image.specs.Reading.{reading, readAll, readOn, identityFault, slotWrong, chainFault, measurementFault, summaryFault, recordFault, endFault};
+ghost use Rattle.image.specs.Reading.{reading, readAll, readOn, identityFault};
 ghost use Rattle.image.specs.Index.{refusedBy, acceptedAt, answerOf};
-ghost use Rattle.reader.specs.Steps.{framesAt, frameAt, recordOf, identityAt, seenAfter, placesAfter, indexFrom};
+ghost use Rattle.reader.specs.Steps.{framesAt, frameAt, recordOf, identityAt, placesAfter, indexFrom};
 
 // Where the body of each slot's record starts (0: not filled), and that of the first measurement.
 struct Places {
@@ -54,13 +38,14 @@ enum Frame {
 }
 
 // A record held against those before it. The key of a good one is its body's first byte: the slot of a chain, the index of a
-// measurement.
+// measurement; next is what is seen past it.
 enum Record {
     Good {
         kind: u8,
         key: u8,
         start: usize,
         len: usize,
+        next: Seen,
     },
     End,
     Refused(u8),
@@ -87,142 +72,14 @@ fn frame_at(s: &[u8], at: usize) -> Frame
     }
 }
 
-fn identity_fault(body: &[u8]) -> u8
-    ensures { λ r. ⌜ r ≡ identityFault (now (body .entry)) ⌝ }
-{
-    if body.len() != IDENTITY_LENGTH {
-        return WRONG_LENGTH;
-    }
-    if EXPONENT_LIMIT < body[0] {
-        return WRONG_FIELD;
-    }
-    if HASH_LIMIT < body[1] {
-        return WRONG_FIELD;
-    }
-    if SIGNATURE_LIMIT < body[2] {
-        return WRONG_FIELD;
-    }
-    0
-}
-
-fn slot_wrong(chains: u8, last: u8, slot: u8) -> bool
-    ensures { λ r. ⌜ r ≡ slotWrong chains last slot ⌝ }
-{
-    if chains == 0 { 0 < slot } else { slot <= last }
-}
-
-fn chain_fault(w: Seen, body: &[u8]) -> u8
-    requires { ⌜ w .size ≤ digestMost ⌝ }
-    ensures { λ r. ⌜ r ≡ chainFault w (now (body .entry)) ⌝ }
-{
-    if 0 < w.measurements {
-        return WRONG_KIND;
-    }
-    if CHAINS_LIMIT <= w.chains {
-        return TOO_MANY;
-    }
-    let size = w.size;
-    if body.len() < 1 + size + (CHAIN_LEAST + size) {
-        return WRONG_LENGTH;
-    }
-    if 1 + size + CHAIN_LIMIT < body.len() {
-        return WRONG_LENGTH;
-    }
-    let slot = body[0];
-    if SLOT_LIMIT < slot {
-        return WRONG_FIELD;
-    }
-    if slot_wrong(w.chains, w.slot, slot) {
-        return WRONG_FIELD;
-    }
-    let own = wire::get_u16le(body, 1 + size) as usize;
-    if own != body.len() - (1 + size) {
-        return WRONG_OWN_LENGTH;
-    }
-    0
-}
-
-fn measurement_fault(w: Seen, body: &[u8]) -> u8
-    requires { ⌜ w .size ≤ digestMost ⌝ }
-    ensures { λ r. ⌜ r ≡ measurementFault w (now (body .entry)) ⌝ }
-{
-    if w.chains == 0 {
-        return WRONG_KIND;
-    }
-    if 0 < w.summaries {
-        return WRONG_KIND;
-    }
-    if MEASUREMENTS_LIMIT <= w.measurements {
-        return TOO_MANY;
-    }
-    if body.len() != 2 + w.size {
-        return WRONG_LENGTH;
-    }
-    let index = body[0];
-    if index <= w.index {
-        return WRONG_FIELD;
-    }
-    if INDEX_LIMIT < index {
-        return WRONG_FIELD;
-    }
-    if TYPE_LIMIT < body[1] {
-        return WRONG_FIELD;
-    }
-    0
-}
-
-fn summary_fault(w: Seen, body: &[u8]) -> u8
-    requires { ⌜ w .size ≤ digestMost ⌝ }
-    ensures { λ r. ⌜ r ≡ summaryFault w (now (body .entry)) ⌝ }
-{
-    if w.measurements == 0 {
-        return WRONG_KIND;
-    }
-    if 0 < w.summaries {
-        return WRONG_KIND;
-    }
-    if body.len() != w.size + w.size {
-        return WRONG_LENGTH;
-    }
-    0
-}
-
-fn record_fault(w: Seen, kind: u8, body: &[u8]) -> u8
-    requires { ⌜ w .size ≤ digestMost ⌝ }
-    ensures { λ r. ⌜ r ≡ recordFault w kind (now (body .entry)) ⌝ }
-{
-    match kind {
-        CHAIN_KIND => chain_fault(w, body),
-        MEASUREMENT_KIND => measurement_fault(w, body),
-        SUMMARY_KIND => summary_fault(w, body),
-        _ => WRONG_KIND,
-    }
-}
-
-fn end_fault(w: Seen) -> u8
-    ensures { λ r. ⌜ r ≡ endFault w ⌝ }
-{
-    if w.chains == 0 {
-        return WRONG_KIND;
-    }
-    if w.measurements == 0 {
-        return 0;
-    }
-    if w.summaries == 0 {
-        return WRONG_KIND;
-    }
-    0
-}
-
 // The record at a place, held against those before it.
 fn read_record(s: &[u8], at: usize, w: Seen) -> Record
-    requires { ⌜ w .size ≤ digestMost ⌝ }
     ensures { λ r. ⌜ r ≡ recordOf (now (s .entry)) w (frameAt (now (s .entry)) at) ⌝ }
 {
     let f = frame_at(s, at);
     let Frame::Whole { kind, start, len } = f else {
         let Frame::Broken = f else {
-            let missing = end_fault(w);
+            let missing = records::end_fault(w);
             if missing != 0 {
                 return Record::Refused(missing);
             }
@@ -231,16 +88,17 @@ fn read_record(s: &[u8], at: usize, w: Seen) -> Record
         return Record::Refused(BROKEN_RECORD);
     };
     let body = wire::part_of(s, start, len);
-    let fault = record_fault(w, kind, body);
-    if fault != 0 {
-        return Record::Refused(fault);
-    }
     let key = wire::byte_at(body, 0);
-    Record::Good {
-        kind,
-        key,
-        start,
-        len,
+    let held = records::hold(w, kind, body);
+    match held {
+        Held::Good(next) => Record::Good {
+            kind,
+            key,
+            start,
+            len,
+            next,
+        },
+        Held::Fault(number) => Record::Refused(number),
     }
 }
 
@@ -279,25 +137,6 @@ fn accepted(exponent: u8, hash: u8, signature: u8, w: Seen, p: Places) -> Image
     }
 }
 
-fn seen_after(w: Seen, kind: u8, key: u8) -> Seen
-    requires { ⌜ (w .chains < 255) × ((w .measurements < 255) × (w .summaries < 255)) ⌝ }
-    ensures { λ r. ⌜ r ≡ seenAfter w kind key ⌝ }
-{
-    let mut next = w;
-    if kind == CHAIN_KIND {
-        next.chains = w.chains + 1;
-        next.slot = key;
-        return next;
-    }
-    if kind == MEASUREMENT_KIND {
-        next.measurements = w.measurements + 1;
-        next.index = key;
-        return next;
-    }
-    next.summaries = w.summaries + 1;
-    next
-}
-
 fn places_after(p: Places, w: Seen, kind: u8, key: u8, start: usize) -> Places
     requires { ⌜ (start ≤ imageLimit) × (kind ≡ chainKind → key ≤ slotLimit) ⌝ }
     ensures { λ r. ⌜ r ≡ placesAfter p w kind key start ⌝ }
@@ -323,15 +162,7 @@ fn walk(s: &[u8], exponent: u8, hash: u8, signature: u8) -> Image
     ensures { λ r. ⌜ r ≡ answerOf (readOn (identityAt exponent hash signature) (framesAt (now (s .entry)) identityEnd)) ⌝ }
 {
     let mut at: usize = IDENTITY_END;
-    let size = image::digest_size(hash);
-    let mut w = Seen {
-        size: size,
-        chains: 0,
-        slot: 0,
-        measurements: 0,
-        index: 0,
-        summaries: 0,
-    };
+    let mut w = records::seen_first(hash);
     let mut places = Places {
         bodies: [0; 8],
         first: 0,
@@ -343,6 +174,7 @@ fn walk(s: &[u8], exponent: u8, hash: u8, signature: u8) -> Image
             key,
             start,
             len,
+            next,
         } = r
         else {
             let Record::Refused(number) = r else {
@@ -351,7 +183,7 @@ fn walk(s: &[u8], exponent: u8, hash: u8, signature: u8) -> Image
             break refused(number);
         };
         places = places_after(places, w, kind, key, start);
-        w = seen_after(w, kind, key);
+        w = next;
         at = start + len;
     }
 }
@@ -372,7 +204,7 @@ fn read_records(s: &[u8]) -> Image
         return refused(WRONG_KIND);
     }
     let body = wire::part_of(s, start, len);
-    let fault = identity_fault(body);
+    let fault = records::identity_fault(body);
     if fault != 0 {
         return refused(fault);
     }

@@ -1,11 +1,7 @@
 -- The frame at the place decides the case; a whole frame is then held against the records before it. Assumes nothing.
-use mathlib.Core.Path.{sym, ap, _∙_}
-use mathlib.Core.List.{List}
-use Prim.Native.Nat.{ℕ}
-use lib.ListN.{getD}
+use mathlib.Core.Path.{sym, _∙_}
 use Rattle.wire.proofs.Picks.{picks}
-use Rattle.image.specs.Reading.{recordFault}
-use Rattle.reader.specs.Steps.{recordOf}
+use Rattle.reader.specs.Steps.{heldRecord, recordOf}
 use Rattle.reader.proofs.Enums.{frame-end}
 use borrow.Author.Needs.{needs}
 use Rattle.reader.proofs.read_record.Statement.{statement}
@@ -44,26 +40,29 @@ returns-3 c = rw (sym (c .before .before .before .frame-at .ensures) ∙ c .enum
 part-of-requires : tie.Need-part-of-requires
 part-of-requires c κs = search needs
 
-record-fault-requires : tie.Need-record-fault-requires
-record-fault-requires c κs = search needs
-
-returns-4 : tie.Need-returns-4
-unfolding recordOf
-returns-4 c =
-    let e = sym (c .before .before .before .before .before .before .frame-at .ensures) ∙ c .before .before .before .before .f .given .1 in
-    let f = c .before .record-fault .ensures ∙ ap (λ (body : List ℕ). recordFault (c .before .before .before .before .before .before .before .before .args .w) (c .before .before .before .before .f .given .0 .0) body) (c .before .before .part-of .ensures) in
-    rw (e, ← f) (search picks depth 6)
-
 byte-at-requires : tie.Need-byte-at-requires
 byte-at-requires c κs = search needs
 
+hold-requires : tie.Need-hold-requires
+hold-requires c κs = search needs
+
+enum-known-held : tie.Need-enum-known-held
+enum-known-held c = search needs
+
+enum-known-held-2 : tie.Need-enum-known-held-2
+enum-known-held-2 c = search needs
+
+returns-4 : tie.Need-returns-4
+unfolding recordOf heldRecord
+returns-4 c =
+    let e = sym (c .before .before .before .before .before .before .before .before .before .frame-at .ensures) ∙ c .before .before .before .before .before .before .before .f .given .1 in
+    rw (e, ← c .before .before .before .before .before .part-of .ensures, ← c .before .before .before .hold .ensures, c .before .held .given .1, ← c .before .before .before .before .byte-at .ensures)
+
 returns-5 : tie.Need-returns-5
-unfolding recordOf
+unfolding recordOf heldRecord
 returns-5 c =
-    let e = sym (c .before .before .before .before .before .before .before .frame-at .ensures) ∙ c .before .before .before .before .before .f .given .1 in
-    let f = c .before .before .record-fault .ensures ∙ ap (λ (body : List ℕ). recordFault (c .before .before .before .before .before .before .before .before .before .args .w) (c .before .before .before .before .before .f .given .0 .0) body) (c .before .before .before .part-of .ensures) in
-    let k = c .byte-at .ensures ∙ ap (λ (body : List ℕ). getD body 0 0) (c .before .before .before .part-of .ensures) in
-    rw (e, ← f, ← k) (search picks depth 6)
+    let e = sym (c .before .before .before .before .before .before .before .before .before .frame-at .ensures) ∙ c .before .before .before .before .before .before .before .f .given .1 in
+    rw (e, ← c .before .before .before .before .before .part-of .ensures, ← c .before .before .before .hold .ensures, c .before .held2 .given .1)
 
 pub read-record-spec : {M : Type 1} → statement M
 read-record-spec =
@@ -77,7 +76,9 @@ read-record-spec =
     returns-2
     returns-3
     part-of-requires
-    record-fault-requires
-    returns-4
     byte-at-requires
+    hold-requires
+    enum-known-held
+    enum-known-held-2
+    returns-4
     returns-5)

@@ -7,24 +7,24 @@ use native.Mathlib.Omega.{arith}
 use lib.ListN.{length}
 use Rattle.reader.specs.Steps.{identityAt}
 use Rattle.reader.proofs.Enums.{record-end}
-use Rattle.reader.proofs.Turns.{Reached, reached-first, reached-refused, reached-end, reached-next, good-within, good-slot, small-size, few}
+use Rattle.reader.proofs.Turns.{Reached, reached-first, reached-refused, reached-end, reached-next, good-within, good-slot}
 use Rattle.reader.proofs.walk.Statement.{statement}
 use Rattle.reader.proofs.walk.Tie as tie
 
 abbrev Inv-loop : tie.InvT-loop
-Inv-loop s exponent hash signature at₀ size w₀ places₀ at w places = Reached s (identityAt exponent hash signature) at w places
+Inv-loop s exponent hash signature at₀ w₀ places₀ at w places = Reached s (identityAt exponent hash signature) at w places
 
 abbrev μ-loop : tie.MeasureT-loop
-μ-loop s exponent hash signature at₀ size w₀ places₀ at w places = length s - at
+μ-loop s exponent hash signature at₀ w₀ places₀ at w places = length s - at
 
-digest-size-requires : tie.Need-digest-size-requires Inv-loop μ-loop
-digest-size-requires c κs = search needs
+seen-first-requires : tie.Need-seen-first-requires Inv-loop μ-loop
+seen-first-requires c κs = search needs
 
 loop-holds : tie.Need-loop-holds Inv-loop μ-loop
-loop-holds c = reached-first _ _ _ _ _ (c .before .before .pre .1) (c .digest-size .ensures .0)
+loop-holds c = rw (c .seen-first .ensures) (reached-first _ _ _ _ (c .before .before .pre .1))
 
 read-record-requires : tie.Need-read-record-requires Inv-loop μ-loop
-read-record-requires c κs = small-size (c .loop .inv)
+read-record-requires c κs = search needs
 
 enum-known-r : tie.Need-enum-known-r Inv-loop μ-loop
 enum-known-r c = search needs
@@ -41,28 +41,25 @@ refused-requires c κs = search needs
 places-after-requires : tie.Need-places-after-requires Inv-loop μ-loop
 places-after-requires c κs =
     let e = sym (c .before .before .before .read-record .ensures) ∙ c .before .r .given .1 in
-    let i = good-within (c .before .before .before .before .loop .inv) _ _ _ _ e in
-    (omega arith, good-slot (c .before .before .before .before .loop .inv) _ _ _ _ e)
-
-seen-after-requires : tie.Need-seen-after-requires Inv-loop μ-loop
-seen-after-requires c κs = few (c .before .before .before .before .before .loop .inv)
+    let i = good-within (c .before .before .before .before .loop .inv) _ _ _ _ _ e in
+    (omega arith, good-slot (c .before .before .before .before .loop .inv) _ _ _ _ _ e)
 
 add-at : tie.Need-add-at Inv-loop μ-loop
 add-at c =
-    let e = sym (c .before .before .before .before .before .read-record .ensures) ∙ c .before .before .before .r .given .1 in
-    let i = good-within (c .before .before .before .before .before .before .loop .inv) _ _ _ _ e in
+    let e = sym (c .before .before .before .before .read-record .ensures) ∙ c .before .before .r .given .1 in
+    let i = good-within (c .before .before .before .before .before .loop .inv) _ _ _ _ _ e in
     omega arith
 
 loop-less : tie.Need-loop-less Inv-loop μ-loop
 loop-less c =
-    let e = sym (c .before .before .before .before .before .read-record .ensures) ∙ c .before .before .before .r .given .1 in
-    let i = good-within (c .before .before .before .before .before .before .loop .inv) _ _ _ _ e in
+    let e = sym (c .before .before .before .before .read-record .ensures) ∙ c .before .before .r .given .1 in
+    let i = good-within (c .before .before .before .before .before .loop .inv) _ _ _ _ _ e in
     omega arith
 
 loop-again : tie.Need-loop-again Inv-loop μ-loop
 loop-again c =
-    let e = sym (c .before .before .before .before .before .read-record .ensures) ∙ c .before .before .before .r .given .1 in
-    rw (c .seen-after .ensures, c .before .places-after .ensures) (reached-next (c .before .before .before .before .before .before .loop .inv) _ _ _ _ e)
+    let e = sym (c .before .before .before .before .read-record .ensures) ∙ c .before .before .r .given .1 in
+    rw (c .places-after .ensures) (reached-next (c .before .before .before .before .before .loop .inv) _ _ _ _ _ e)
 
 returns : tie.Need-returns Inv-loop μ-loop
 returns c =
@@ -78,7 +75,7 @@ walk-spec =
     (tie.spec
     Inv-loop
     μ-loop
-    digest-size-requires
+    seen-first-requires
     loop-holds
     read-record-requires
     enum-known-r
@@ -86,7 +83,6 @@ walk-spec =
     accepted-requires
     refused-requires
     places-after-requires
-    seen-after-requires
     add-at
     loop-less
     loop-again

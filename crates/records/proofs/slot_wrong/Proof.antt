@@ -1,8 +1,8 @@
 -- The tests are made in the definition's order, so the tests that led to each return pick its case. Assumes nothing.
 use Rattle.wire.proofs.Picks.{picks}
 use Rattle.image.specs.Reading.{slotWrong}
-use Rattle.reader.proofs.slot_wrong.Statement.{statement}
-use Rattle.reader.proofs.slot_wrong.Tie as tie
+use Rattle.records.proofs.slot_wrong.Statement.{statement}
+use Rattle.records.proofs.slot_wrong.Tie as tie
 
 returns : tie.Need-returns
 unfolding slotWrong

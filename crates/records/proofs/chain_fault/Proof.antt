@@ -2,8 +2,8 @@
 use Rattle.wire.proofs.Picks.{picks}
 use Rattle.image.specs.Reading.{chainFault}
 use borrow.Author.Needs.{needs}
-use Rattle.reader.proofs.chain_fault.Statement.{statement}
-use Rattle.reader.proofs.chain_fault.Tie as tie
+use Rattle.records.proofs.chain_fault.Statement.{statement}
+use Rattle.records.proofs.chain_fault.Tie as tie
 
 returns : tie.Need-returns
 unfolding chainFault
@@ -12,6 +12,9 @@ returns c = search picks depth 18
 returns-2 : tie.Need-returns-2
 unfolding chainFault
 returns-2 c = search picks depth 18
+
+wide-requires : tie.Need-wide-requires
+wide-requires c κs = search needs
 
 add-if3 : tie.Need-add-if3
 add-if3 c = search needs
@@ -24,7 +27,7 @@ add-if3-3 c = search needs
 
 returns-3 : tie.Need-returns-3
 unfolding chainFault
-returns-3 c = search picks depth 18
+returns-3 c = rw (← c .before .wide .ensures .0) (search picks depth 18)
 
 add-if4 : tie.Need-add-if4
 add-if4 c = search needs
@@ -34,21 +37,21 @@ add-if4-2 c = search needs
 
 returns-4 : tie.Need-returns-4
 unfolding chainFault
-returns-4 c = search picks depth 18
+returns-4 c = rw (← c .before .before .wide .ensures .0) (search picks depth 18)
 
 shared-slice-read-slot : tie.Need-shared-slice-read-slot
 shared-slice-read-slot c = search needs
 
 returns-5 : tie.Need-returns-5
 unfolding chainFault
-returns-5 c = search picks depth 18
+returns-5 c = rw (← c .before .before .before .before .wide .ensures .0) (search picks depth 18)
 
 slot-wrong-requires : tie.Need-slot-wrong-requires
 slot-wrong-requires c κs = search needs
 
 returns-6 : tie.Need-returns-6
 unfolding chainFault
-returns-6 c = rw (← c .before .slot-wrong .ensures) (search picks depth 18)
+returns-6 c = rw (← c .before .before .before .before .before .before .wide .ensures .0, ← c .before .slot-wrong .ensures) (search picks depth 18)
 
 add-get-u16le : tie.Need-add-get-u16le
 add-get-u16le c = search needs
@@ -67,11 +70,11 @@ sub-if7 c = search needs
 
 returns-7 : tie.Need-returns-7
 unfolding chainFault
-returns-7 c = rw (← c .before .before .before .slot-wrong .ensures, ← c .before .get-u16le .ensures) (search picks depth 18)
+returns-7 c = rw (← c .before .before .before .before .before .before .before .before .wide .ensures .0, ← c .before .before .before .slot-wrong .ensures, ← c .before .get-u16le .ensures) (search picks depth 18)
 
 returns-8 : tie.Need-returns-8
 unfolding chainFault
-returns-8 c = rw (← c .before .before .before .slot-wrong .ensures, ← c .before .get-u16le .ensures) (search picks depth 18)
+returns-8 c = rw (← c .before .before .before .before .before .before .before .before .wide .ensures .0, ← c .before .before .before .slot-wrong .ensures, ← c .before .get-u16le .ensures) (search picks depth 18)
 
 pub chain-fault-spec : {M : Type 1} → statement M
 chain-fault-spec =
@@ -79,6 +82,7 @@ chain-fault-spec =
     (tie.spec
     returns
     returns-2
+    wide-requires
     add-if3
     add-if3-2
     add-if3-3

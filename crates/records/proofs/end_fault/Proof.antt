@@ -1,8 +1,8 @@
 -- The tests are made in the definition's order, so the tests that led to each return pick its case. Assumes nothing.
 use Rattle.wire.proofs.Picks.{picks}
 use Rattle.image.specs.Reading.{endFault}
-use Rattle.reader.proofs.end_fault.Statement.{statement}
-use Rattle.reader.proofs.end_fault.Tie as tie
+use Rattle.records.proofs.end_fault.Statement.{statement}
+use Rattle.records.proofs.end_fault.Tie as tie
 
 returns : tie.Need-returns
 unfolding endFault

@@ -2,8 +2,8 @@
 use Rattle.wire.proofs.Picks.{picks}
 use Rattle.image.specs.Reading.{recordFault}
 use borrow.Author.Needs.{needs}
-use Rattle.reader.proofs.record_fault.Statement.{statement}
-use Rattle.reader.proofs.record_fault.Tie as tie
+use Rattle.records.proofs.record_fault.Statement.{statement}
+use Rattle.records.proofs.record_fault.Tie as tie
 
 chain-fault-requires : tie.Need-chain-fault-requires
 chain-fault-requires c κs = search needs

@@ -2,8 +2,8 @@
 use Rattle.wire.proofs.Picks.{picks}
 use Rattle.image.specs.Reading.{identityFault}
 use borrow.Author.Needs.{needs}
-use Rattle.reader.proofs.identity_fault.Statement.{statement}
-use Rattle.reader.proofs.identity_fault.Tie as tie
+use Rattle.records.proofs.identity_fault.Statement.{statement}
+use Rattle.records.proofs.identity_fault.Tie as tie
 
 returns : tie.Need-returns
 unfolding identityFault
