@@ -1,0 +1,5 @@
+pub mod Records
+pub mod RoundTrip
+pub mod Drafts
+pub mod Rest
+pub mod Promise
