@@ -9,13 +9,13 @@ include demo.mk
 
 .PHONY: test rust-test bench
 
-rust-test: $(RESPONDER_LIB)
+rust-test: $(RESPONDER_LIB) $(MAKE_IMAGE)
 	$(CARGO) test -q $(RUST)
 
 bench: $(RESPONDER_LIB)
 	$(CARGO) run -q $(RUST) --bin bench
 
 # rt ci removes target/ and proves everything from nothing, so it comes last.
-test: fuzz-short demo-sanitized rust-test
+test: fuzz-short demo-sanitized demo-image rust-test
 	rt fmt --check
 	rt ci

@@ -1,5 +1,6 @@
 # The C demonstration and the fuzz driver. The repository's Makefile includes this file.
 #   make demo         prove and build the library if needed, build the demonstration and run it
+#   make demo-image   the demonstration's box as the bench's lines, made into its image by make_image
 #   make fuzz         the demonstration under the sanitizers, then FUZZ_SECONDS of libFuzzer; without clang's runtime,
 #                     FUZZ_INPUTS inputs of the driver
 #   make fuzz-short   FUZZ_SHORT_INPUTS inputs, always the same ones, in a few seconds
@@ -21,10 +22,12 @@ HOST_OBJECTS := $(HOST_SOURCES:host/%.c=$(HOST_OUT)/%.o)
 FUZZ_SOURCES := $(wildcard fuzz/*.c)
 OPENSSL_PACKAGE := apt-get install -y libssl-dev
 
-.PHONY: demo demo-sanitized fuzz fuzz-short fuzz-libfuzzer fuzz-driver openssl-headers
+.PHONY: demo demo-image demo-sanitized fuzz fuzz-short fuzz-libfuzzer fuzz-driver openssl-headers
+
+SOURCES := crates.txt $(shell find crates -name '*.rt' -o -name '*.antt' 2>/dev/null)
 
 # rt proves only what has changed; the archive's date then stands for all sources.
-target/staticlib/libspdm_responder.a: crates.txt $(shell find crates -name '*.rt' -o -name '*.antt' 2>/dev/null)
+target/staticlib/libspdm_responder.a: $(SOURCES)
 	rt staticlib spdm_responder
 	touch $@
 
@@ -46,6 +49,17 @@ $(HOST_OUT)/demo: $(HOST_OBJECTS) $(RESPONDER_LIB)
 
 demo: $(HOST_OUT)/demo
 	$(HOST_OUT)/demo
+
+# The bench's program, dated as the archive is, and behind it: one rt runs at a time.
+MAKE_IMAGE := target/bin/make_image
+
+$(MAKE_IMAGE): $(SOURCES) | $(RESPONDER_LIB)
+	rt check make_image
+	touch -c $@
+
+demo-image: $(HOST_OUT)/demo $(MAKE_IMAGE)
+	$(HOST_OUT)/demo --export $(HOST_OUT)/box.txt $(HOST_OUT)/box.img
+	$(MAKE_IMAGE) <$(HOST_OUT)/box.txt | cmp - $(HOST_OUT)/box.img
 
 SANITIZE := -fsanitize=address,undefined -fno-sanitize-recover=all
 

@@ -1,8 +1,10 @@
 // The demonstration: panels talk to boxes, then what the auditor asked is shown check by check.
 #include "audit.h"
+#include "lines.h"
 #include "stage.h"
 
 #include <stdio.h>
+#include <string.h>
 
 // ResponseTooLarge tells the size that the answer would have.
 static void check_too_large(struct stage *stage, size_t size, const char *what)
@@ -72,10 +74,24 @@ static void meet(struct show *show, const struct suite *suite, bool quiet)
     stage_end(stage);
 }
 
-int main(void)
+// The first box's image, and the lines that the bench would make it of.
+static void export_box(struct show *show, const struct suite *suite, const char *lines_path, const char *image_path)
+{
+    struct stage *stage = stage_start(show, suite);
+    if (!stage)
+        return;
+    show_check(show, write_lines(&stage->box, lines_path, image_path), "%s and %s written", lines_path, image_path);
+    stage_end(stage);
+}
+
+int main(int count, char **words)
 {
     struct show show = {0};
     const struct suite *p256 = suite_by_numbers(0, 4), *p384 = suite_by_numbers(1, 7);
+    if (count == 4 && strcmp(words[1], "--export") == 0) {
+        export_box(&show, p256, words[2], words[3]);
+        return show_end(&show);
+    }
     meet(&show, p256, false);
     meet(&show, p384, false);
     meet(&show, suite_by_numbers(2, 7), true);

@@ -1,32 +1,11 @@
 //! The vectors, through the plain responder and through the C interface: every line must agree.
 
+mod common;
+
 use std::collections::HashMap;
-use std::fs;
-use std::path::Path;
 
+use common::{bytes, hex, read_lines};
 use spdm_check::{ffi, plain};
-
-/// The lines that a program of the repository reads: the vectors' only copy.
-fn read_lines(program: &str) -> Vec<String> {
-    let path = Path::new(env!("CARGO_MANIFEST_DIR")).join("../crates").join(program).join("stdin");
-    let text = fs::read_to_string(&path).unwrap_or_else(|error| panic!("{}: {error}", path.display()));
-    text.lines().map(str::to_owned).collect()
-}
-
-fn bytes(hex: &str) -> Vec<u8> {
-    if hex == "-" {
-        return Vec::new();
-    }
-    assert!(hex.len().is_multiple_of(2), "odd hex: {hex}");
-    (0..hex.len()).step_by(2).map(|at| u8::from_str_radix(&hex[at..at + 2], 16).expect("hex")).collect()
-}
-
-fn hex(bytes: &[u8]) -> String {
-    if bytes.is_empty() {
-        return "-".to_owned();
-    }
-    bytes.iter().map(|byte| format!("{byte:02x}")).collect()
-}
 
 fn number<T: std::str::FromStr>(text: &str) -> T
 where
