@@ -1,5 +1,6 @@
 // The bench's text of an image, lines of hex, taken in parts of any length: it is decoded, tested and put together record by record, in
 // the room of one line and one image.
+use image::limits::CHAIN_LIMIT;
 use writer::Draft;
 use writer::Written;
 ghost use mathlib.Core.Path.{_≡_};
@@ -16,8 +17,11 @@ const NO_VERSION: u8 = 0;
 
 const NO_KIND: u8 = 0;
 
+// The bytes of the longest digest.
+const DIGEST_MOST: usize = 64;
+
 // Room for the kind, the longest body that a record may have, and one byte more.
-const LINE_ROOM: usize = 4163;
+const LINE_ROOM: usize = 1 + (1 + DIGEST_MOST + CHAIN_LIMIT) + 1;
 
 // What has come of a line: whether a character is no hex digit, the first digit of a byte whose second is to come (16: none), and how many
 // bytes are kept.

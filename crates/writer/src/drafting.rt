@@ -18,7 +18,7 @@ ghost use Rattle.records.specs.Records.{heldOf};
 ghost use Rattle.writer.specs.Draft.{openedBy, faulty, grownTo, identityAdded, heldAdded, added, missing, closed};
 
 // The number of a lent output that is shorter than the image.
-pub const SHORT_OUTPUT: u8 = 18;
+const SHORT_OUTPUT: u8 = 18;
 
 // The first byte alone.
 pub fn open(first: u8) -> Draft
