@@ -11,7 +11,7 @@ use Rattle.wire.proofs.Laws.{part-length}
 use Rattle.wire.proofs.Picks.{picks}
 use Rattle.image.specs.Limits.{identityKind, identityEnd, wrongKind}
 use Rattle.image.specs.Reading.{number, unless, identityFault, identified, readOn, readAll}
-use Rattle.records.proofs.Lengths.{identity-length}
+use Rattle.records.proofs.Good.{identity-length}
 use Rattle.reader.specs.Steps.{framesAt, frameAt}
 use Rattle.reader.specs.declared.Frame.{Frame}
 use Rattle.reader.specs.declared.Frame.the-variants as fr

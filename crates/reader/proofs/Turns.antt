@@ -21,7 +21,7 @@ use Rattle.reader.specs.Steps.{framesAt, frameAt, heldRecord, recordOf, 
 use Rattle.image.specs.declared.Seen.{Seen}
 use Rattle.records.specs.Records.{seenFirst, seenAfter, heldOf}
 use Rattle.records.specs.declared.Held.{Held}
-use Rattle.records.proofs.Rooms.{chain-fine, measurement-fine}
+use Rattle.records.proofs.Good.{chain-fine, measurement-fine}
 use Rattle.records.proofs.Seeing.{seen-extended}
 use Rattle.reader.specs.declared.Places.{Places}
 use Rattle.reader.specs.declared.Frame.{Frame}

@@ -1,3 +1,2 @@
-pub mod Rooms
+pub mod Good
 pub mod Seeing
-pub mod Lengths

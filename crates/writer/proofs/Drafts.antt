@@ -14,6 +14,7 @@ use Rattle.image.specs.Limits.{imageLimit, imageVersion, headLength, identityKi
 use Rattle.image.specs.Contents.{Contents, recordBytes}
 use Rattle.image.specs.Reading.{Result, number, found, unless, seen, identityFault, recordFault, endFault, identified, extended, readOn, readAll}
 use Rattle.image.specs.declared.Seen.{Seen}
+use Rattle.image.proofs.Framed.{record-length}
 use Rattle.records.specs.Records.{seenAfter, heldOf}
 use Rattle.records.specs.declared.Held.{Held}
 use Rattle.records.proofs.Seeing.{seen-extended}
@@ -22,7 +23,6 @@ use Rattle.writer.specs.Draft.{nothingSeen, openedBy, faulty, longer, id
 use Rattle.writer.specs.declared.Draft.{Draft}
 use Rattle.writer.specs.declared.Written.{Written}
 use Rattle.writer.specs.declared.Written.the-variants as written
-use Rattle.image.proofs.Framed.{record-length}
 
 -- a fault stays, and is the answer
 fault-stays : (d : Draft) (rs : List Record) → eqb (d .fault) 0 ≡ false → addedAll d rs ≡ d

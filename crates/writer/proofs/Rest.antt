@@ -12,10 +12,10 @@ use Rattle.wire.specs.Bytes.{part, splice}
 use Rattle.wire.proofs.Laws.{splice-length, splice-then}
 use Rattle.image.specs.Limits.{headLength}
 use Rattle.image.specs.Contents.{recordBytes}
+use Rattle.image.proofs.Framed.{record-length}
 use Rattle.writer.specs.Writing.{Record, recordsIn, joined}
 use Rattle.writer.specs.Draft.{added, addedAll}
 use Rattle.writer.specs.declared.Draft.{Draft}
-use Rattle.image.proofs.Framed.{record-length}
 
 -- the records from the i-th on, whose bodies start at a place
 abbrev pub restAt : List ℕ → List ℕ → List ℕ → ℕ → ℕ → List Record

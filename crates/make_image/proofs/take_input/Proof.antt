@@ -1,8 +1,8 @@
 -- The buffers keep their lengths; the count of parts bounds the turns. Assumes nothing.
-use borrow.Author.Needs.{needs}
-use lib.ListN.{length}
-use Prim.Native.Nat.{_-_}
 use mathlib.Core.Path.{_≡_}
+use Prim.Native.Nat.{_-_}
+use lib.ListN.{length}
+use borrow.Author.Needs.{needs}
 use Rattle.make_image.proofs.take_input.Statement.{statement}
 use Rattle.make_image.proofs.take_input.Tie as tie
 

@@ -3,7 +3,7 @@
 use Rattle.wire.proofs.Picks.{picks}
 use borrow.Author.Needs.{needs}
 use native.Mathlib.Omega.{arith}
-use Rattle.records.proofs.Rooms.{chain-fine, measurement-fine, summary-first}
+use Rattle.records.proofs.Good.{chain-fine, measurement-fine, summary-fine}
 use Rattle.records.proofs.seen_after.Statement.{statement}
 use Rattle.records.proofs.seen_after.Tie as tie
 
@@ -23,7 +23,7 @@ returns-2 : tie.Need-returns-2
 returns-2 c = rw (← c .before .before .before .byte-at .ensures) (search picks depth 14)
 
 add-next-3 : tie.Need-add-next-3
-add-next-3 c = omega (arith, summary-first _ _ _ (c .before .before .before .before .before .pre) (c .before .before .if1 .left) (c .before .if2 .left))
+add-next-3 c = omega (arith, summary-fine _ _ _ (c .before .before .before .before .before .pre) (c .before .before .if1 .left) (c .before .if2 .left) .first)
 
 returns-3 : tie.Need-returns-3
 returns-3 c = search picks depth 14

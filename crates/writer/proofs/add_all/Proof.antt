@@ -1,14 +1,14 @@
 -- At each turn, what the rest of the records makes of the draft so far is what all of them make of the draft at the start (`restAt`); a turn
 -- adds the record that stands there. Assumes nothing.
-use Rattle.writer.proofs.Rest.{restAt, body-within, rest-none, added-next}
+use mathlib.Core.Path.{_≡_, refl, sym, ap, _∙_}
+use Prim.Native.Nat.{_-_, _≤_}
+use native.Mathlib.Omega.{arith}
+use lib.ListN.{length}
+use borrow.Author.Needs.{needs}
 use Rattle.wire.specs.Bytes.{part}
 use Rattle.writer.specs.Draft.{addedAll}
 use Rattle.writer.specs.Writing.{recordsIn}
-use borrow.Author.Needs.{needs}
-use lib.ListN.{length}
-use native.Mathlib.Omega.{arith}
-use Prim.Native.Nat.{_-_, _≤_}
-use mathlib.Core.Path.{_≡_, refl, sym, ap, _∙_}
+use Rattle.writer.proofs.Rest.{restAt, body-within, rest-none, added-next}
 use Rattle.writer.proofs.add_all.Statement.{statement}
 use Rattle.writer.proofs.add_all.Tie as tie
 
@@ -34,19 +34,6 @@ shared-slice-read-add c = omega arith
 add-requires : tie.Need-add-requires Inv-loop μ-loop
 add-requires c κs = search needs
 
-add-at : tie.Need-add-at Inv-loop μ-loop
-add-at c =
-    let l = c .before .before .before .before .before .loop in
-    let a = c .before .before .before .before .before .before .before .before .before .args in
-    let e = c .before .before .part-of .ensures ∙ ap (part (a .bodies .now) (l .at)) (c .before .before .before .length-at .ensures) in
-    omega (arith, body-within (a .kinds .now) (a .lengths .now) (a .bodies .now) (l .at) (l .i) _ e (l .inv .0))
-
-add-i : tie.Need-add-i Inv-loop μ-loop
-add-i c = omega arith
-
-loop-less : tie.Need-loop-less Inv-loop μ-loop
-loop-less c = omega arith
-
 loop-again : tie.Need-loop-again Inv-loop μ-loop
 loop-again c =
     let l = c .before .before .before .before .before .loop in
@@ -55,6 +42,15 @@ loop-again c =
       body-within (a .kinds .now) (a .lengths .now) (a .bodies .now) (l .at) (l .i) _ e (l .inv .0),
       added-next (a .kinds .now) (a .lengths .now) (a .bodies .now) (l .at) (l .i) _ e (l .d) _ (c .add .ensures) (c .before .before .before .before .loop-test .taken) ∙ l .inv .1,
     )
+
+add-at : tie.Need-add-at Inv-loop μ-loop
+add-at c = omega (arith, loop-again c .0)
+
+add-i : tie.Need-add-i Inv-loop μ-loop
+add-i c = omega arith
+
+loop-less : tie.Need-loop-less Inv-loop μ-loop
+loop-less c = omega arith
 
 returns : tie.Need-returns Inv-loop μ-loop
 returns c =

@@ -1,14 +1,14 @@
 -- At each turn, what the rest of the records makes of the buffer so far is what all of them make of the buffer at the start (`restAt`); a turn
 -- puts the record that stands there. The end of the image bounds each place. Assumes nothing.
-use Rattle.writer.proofs.Rest.{rest-none, Putting, putting-next}
-use Rattle.writer.specs.Writing.{Record, joined}
-use Rattle.wire.specs.Bytes.{part, splice}
-use borrow.Author.Needs.{needs}
-use lib.ListN.{length}
-use native.Mathlib.Omega.{arith}
-use Prim.Native.Nat.{_-_}
 use mathlib.Core.List.{List}
 use mathlib.Core.Path.{refl, sym, ap, _∙_}
+use Prim.Native.Nat.{_-_}
+use native.Mathlib.Omega.{arith}
+use lib.ListN.{length}
+use borrow.Author.Needs.{needs}
+use Rattle.wire.specs.Bytes.{part, splice}
+use Rattle.writer.specs.Writing.{Record, joined}
+use Rattle.writer.proofs.Rest.{rest-none, Putting, putting-next}
 use Rattle.writer.proofs.put_all.Statement.{statement}
 use Rattle.writer.proofs.put_all.Tie as tie
 
@@ -33,43 +33,28 @@ shared-slice-read-put-record c = omega arith
 put-record-requires : tie.Need-put-record-requires Inv-loop μ-loop
 put-record-requires c κs = search needs
 
-add-end : tie.Need-add-end Inv-loop μ-loop
-add-end c =
+loop-again : tie.Need-loop-again Inv-loop μ-loop
+loop-again c =
     let l = c .before .before .before .before .before .before .before .before .loop in
     let a = c .before .before .before .before .before .before .before .before .before .before .before .before .before .args in
     let e = c .before .before .before .before .before .part-of .ensures ∙ ap (part (a .bodies .now) (l .at)) (c .before .before .before .before .before .before .length-at .ensures) in
-    let n = putting-next (a .kinds .now) (a .lengths .now) (a .bodies .now) (l .at) (l .i) _ e (a .out .now) (l .out) _ (l .end) (l .inv) (c .before .before .before .before .before .before .before .loop-test .taken) (c .before .before .put-record .ensures) in
-    omega (arith, n .ends, n .place, c .before .before .before .before .before .before .before .before .before .before .before .before .before .pre)
+    putting-next (a .kinds .now) (a .lengths .now) (a .bodies .now) (l .at) (l .i) _ e (a .out .now) (l .out) _ (l .end) (l .inv) (c .before .before .before .before .before .before .before .loop-test .taken) (c .before .before .put-record .ensures)
+
+-- the places of the next turn lie within the buffers
+add-end : tie.Need-add-end Inv-loop μ-loop
+add-end c = let n = loop-again c in omega (arith, n .ends, n .place, c .before .before .before .before .before .before .before .before .before .before .before .before .before .pre)
 
 add-end-2 : tie.Need-add-end-2 Inv-loop μ-loop
-add-end-2 c =
-    let l = c .before .before .before .before .before .before .before .before .loop in
-    let a = c .before .before .before .before .before .before .before .before .before .before .before .before .before .args in
-    let e = c .before .before .before .before .before .part-of .ensures ∙ ap (part (a .bodies .now) (l .at)) (c .before .before .before .before .before .before .length-at .ensures) in
-    let n = putting-next (a .kinds .now) (a .lengths .now) (a .bodies .now) (l .at) (l .i) _ e (a .out .now) (l .out) _ (l .end) (l .inv) (c .before .before .before .before .before .before .before .loop-test .taken) (c .before .before .put-record .ensures) in
-    omega (arith, n .ends, n .place, c .before .before .before .before .before .before .before .before .before .before .before .before .before .pre)
+add-end-2 c = let n = loop-again c in omega (arith, n .ends, n .place, c .before .before .before .before .before .before .before .before .before .before .before .before .before .pre)
 
 add-at : tie.Need-add-at Inv-loop μ-loop
-add-at c =
-    let l = c .before .before .before .before .before .before .before .before .loop in
-    let a = c .before .before .before .before .before .before .before .before .before .before .before .before .before .args in
-    let e = c .before .before .before .before .before .part-of .ensures ∙ ap (part (a .bodies .now) (l .at)) (c .before .before .before .before .before .before .length-at .ensures) in
-    let n = putting-next (a .kinds .now) (a .lengths .now) (a .bodies .now) (l .at) (l .i) _ e (a .out .now) (l .out) _ (l .end) (l .inv) (c .before .before .before .before .before .before .before .loop-test .taken) (c .before .before .put-record .ensures) in
-    omega (arith, n .ends, n .place, c .before .before .before .before .before .before .before .before .before .before .before .before .before .pre)
+add-at c = let n = loop-again c in omega (arith, n .ends, n .place, c .before .before .before .before .before .before .before .before .before .before .before .before .before .pre)
 
 add-i : tie.Need-add-i Inv-loop μ-loop
 add-i c = omega arith
 
 loop-less : tie.Need-loop-less Inv-loop μ-loop
 loop-less c = omega arith
-
-loop-again : tie.Need-loop-again Inv-loop μ-loop
-loop-again c =
-    let l = c .before .before .before .before .before .before .before .before .loop in
-    let a = c .before .before .before .before .before .before .before .before .before .before .before .before .before .args in
-    let e = c .before .before .before .before .before .part-of .ensures ∙ ap (part (a .bodies .now) (l .at)) (c .before .before .before .before .before .before .length-at .ensures) in
-    let n = putting-next (a .kinds .now) (a .lengths .now) (a .bodies .now) (l .at) (l .i) _ e (a .out .now) (l .out) _ (l .end) (l .inv) (c .before .before .before .before .before .before .before .loop-test .taken) (c .before .before .put-record .ensures) in
-    n
 
 same-length : tie.Need-same-length Inv-loop μ-loop
 same-length c = search needs

@@ -1,12 +1,12 @@
 -- A record is put as its head, then its body; what would lie past the buffer's end is lost. Assumes nothing.
-use Rattle.writer.proofs.Records.{head-then-body, head-alone}
-use Rattle.image.specs.Limits.{headLength}
-use Rattle.wire.proofs.Laws.{splice-past}
-use Rattle.wire.specs.Bytes.{splice}
-use Prim.Native.Nat.{ℕ, _+_}
 use mathlib.Core.List.{List}
 use mathlib.Core.Path.{sym, ap, _∙_}
+use Prim.Native.Nat.{ℕ, _+_}
 use borrow.Author.Needs.{needs}
+use Rattle.wire.proofs.Laws.{splice-past}
+use Rattle.wire.specs.Bytes.{splice}
+use Rattle.image.specs.Limits.{headLength}
+use Rattle.writer.proofs.Records.{head-then-body, head-alone}
 use Rattle.writer.proofs.put_record.Statement.{statement}
 use Rattle.writer.proofs.put_record.Tie as tie
 

@@ -1,16 +1,16 @@
 -- The draft of all records, closed, answers as the definition says (`closing`); only where it answers an image is the buffer written, with that
 -- image. Assumes nothing.
-use Rattle.writer.proofs.Promise.{wrote-nothing, image-fits, wrote-image}
-use Rattle.writer.proofs.Drafts.{closing-by}
 use mathlib.Core.List.{List, [], _∷_}
+use mathlib.Core.Path.{ap, _∙_}
 use Prim.Native.Nat.{ℕ}
 use native.Mathlib.Omega.{arith}
 use lib.ListN.{length}
+use borrow.Author.Needs.{needs}
 use Rattle.wire.specs.Bytes.{splice}
 use Rattle.wire.proofs.Laws.{splice-length}
 use Rattle.writer.specs.Writing.{recordsIn, joined}
-use mathlib.Core.Path.{ap, _∙_}
-use borrow.Author.Needs.{needs}
+use Rattle.writer.proofs.Promise.{wrote-nothing, image-fits, wrote-image}
+use Rattle.writer.proofs.Drafts.{closing-by}
 use Rattle.writer.proofs.write_image.Statement.{statement}
 use Rattle.writer.proofs.write_image.Tie as tie
 

@@ -1,7 +1,7 @@
 -- The tests are made in the definition's order, so the tests that led to each return pick its case. Assumes nothing.
-use Rattle.writer.specs.Draft.{added}
-use Rattle.wire.proofs.Picks.{picks}
 use borrow.Author.Needs.{needs}
+use Rattle.wire.proofs.Picks.{picks}
+use Rattle.writer.specs.Draft.{added}
 use Rattle.writer.proofs.drafting.add.Statement.{statement}
 use Rattle.writer.proofs.drafting.add.Tie as tie
 

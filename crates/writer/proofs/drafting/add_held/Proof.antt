@@ -1,9 +1,9 @@
 -- The reader's test gives the case. A good record is no longer than its tests allow, so its length can be counted. Assumes nothing.
-use Rattle.records.proofs.Lengths.{good-length}
-use Rattle.writer.specs.Draft.{heldAdded}
-use native.Mathlib.Omega.{arith}
 use mathlib.Core.Path.{sym, ap, _∙_}
+use native.Mathlib.Omega.{arith}
 use borrow.Author.Needs.{needs}
+use Rattle.records.proofs.Good.{good-length}
+use Rattle.writer.specs.Draft.{heldAdded}
 use Rattle.writer.proofs.drafting.add_held.Statement.{statement}
 use Rattle.writer.proofs.drafting.add_held.Tie as tie
 

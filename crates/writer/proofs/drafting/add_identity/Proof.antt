@@ -1,11 +1,11 @@
 -- The tests are made in the definition's order, so the tests that led to each return pick its case. A good identity has three bytes, which
 -- the length counts. Assumes nothing.
-use Rattle.writer.specs.Draft.{identityAdded}
-use Rattle.records.proofs.Lengths.{identity-length}
-use native.Mathlib.Omega.{arith}
 use mathlib.Core.Path.{_≡_, sym, _∙_}
-use Rattle.wire.proofs.Picks.{picks}
+use native.Mathlib.Omega.{arith}
 use borrow.Author.Needs.{needs}
+use Rattle.wire.proofs.Picks.{picks}
+use Rattle.records.proofs.Good.{identity-length}
+use Rattle.writer.specs.Draft.{identityAdded}
 use Rattle.writer.proofs.drafting.add_identity.Statement.{statement}
 use Rattle.writer.proofs.drafting.add_identity.Tie as tie
 

@@ -1,8 +1,8 @@
 -- Past the limit the length stays, else the record is counted: the test decides. Assumes nothing.
-use Rattle.writer.specs.Draft.{longer}
+use borrow.Author.Needs.{needs}
 use Rattle.wire.specs.Pick.{pick}
 use Rattle.wire.proofs.Picks.{picks}
-use borrow.Author.Needs.{needs}
+use Rattle.writer.specs.Draft.{longer}
 use Rattle.writer.proofs.drafting.grown.Statement.{statement}
 use Rattle.writer.proofs.drafting.grown.Tie as tie
 

@@ -1,7 +1,7 @@
 -- Before the identity a record is missing; past it the reader's own test says which. Assumes nothing.
-use Rattle.writer.specs.Draft.{missing}
-use Rattle.wire.proofs.Picks.{picks}
 use borrow.Author.Needs.{needs}
+use Rattle.wire.proofs.Picks.{picks}
+use Rattle.writer.specs.Draft.{missing}
 use Rattle.writer.proofs.drafting.missing_number.Statement.{statement}
 use Rattle.writer.proofs.drafting.missing_number.Tie as tie
 

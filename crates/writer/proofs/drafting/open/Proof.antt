@@ -1,7 +1,7 @@
 -- The first byte's test decides the fault. Assumes nothing.
-use Rattle.writer.specs.Draft.{openedBy}
 use Rattle.wire.specs.Pick.{pick}
 use Rattle.wire.proofs.Picks.{picks}
+use Rattle.writer.specs.Draft.{openedBy}
 use Rattle.writer.proofs.drafting.open.Statement.{statement}
 use Rattle.writer.proofs.drafting.open.Tie as tie
 
