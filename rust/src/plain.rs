@@ -27,14 +27,14 @@ pub const STATE_WORDS: usize = 8;
 pub const PREFIX: usize = 100;
 
 const MIN_PEER_SIZE: u32 = 42;
-const MAX_CHAIN: usize = 4_096;
+pub(crate) const MAX_CHAIN: usize = 4_096;
 const MAX_PORTION: usize = 1_024;
-const MAX_CHAINS: usize = 8;
-const MAX_MEASUREMENTS: usize = 32;
+pub(crate) const MAX_CHAINS: usize = 8;
+pub(crate) const MAX_MEASUREMENTS: usize = 32;
 const NONCE: usize = 32;
 
-const HASH_SIZES: [usize; 6] = [32, 48, 64, 32, 48, 64];
-const SIGNATURE_SIZES: [usize; 9] = [256, 256, 384, 384, 64, 512, 512, 96, 132];
+pub(crate) const HASH_SIZES: [usize; 6] = [32, 48, 64, 32, 48, 64];
+pub(crate) const SIGNATURE_SIZES: [usize; 9] = [256, 256, 384, 384, 64, 512, 512, 96, 132];
 
 /// The numbers the host sees.
 #[derive(Clone, Copy, Debug, PartialEq, Eq)]
@@ -103,9 +103,9 @@ pub struct Measurement<'a> {
 
 /// What kind 4 holds.
 #[derive(Clone, Copy, Debug)]
-struct Summaries<'a> {
-    tcb: &'a [u8],
-    all: &'a [u8],
+pub struct Summaries<'a> {
+    pub tcb: &'a [u8],
+    pub all: &'a [u8],
 }
 
 /// An accepted image.
@@ -234,50 +234,96 @@ impl<'a> Image<'a> {
 
         Ok(Image { ct_exponent, hash_number, signature_number, chains, measurements, summaries })
     }
+}
 
+/// What an answer needs of an accepted image, however it was read: [`Image`] keeps slices, the tuned reader places.
+pub trait Provision<'a> {
+    fn ct_exponent(&self) -> u8;
+    fn hash_number(&self) -> u8;
+    fn signature_number(&self) -> u8;
     /// H.
-    pub fn hash_size(&self) -> usize {
-        HASH_SIZES[usize::from(self.hash_number)]
-    }
+    fn hash_size(&self) -> usize;
+    fn chain(&self, slot: Slot) -> Option<Chain<'a>>;
+    /// The filled slots and their chains, by rising slot.
+    fn chains(&self) -> impl Iterator<Item = (Slot, Chain<'a>)>;
+    /// The kind 3 records, heads included.
+    fn measurement_records(&self) -> &'a [u8];
+    fn summaries(&self) -> Option<Summaries<'a>>;
 
     /// S.
-    pub fn signature_size(&self) -> usize {
-        SIGNATURE_SIZES[usize::from(self.signature_number)]
+    fn signature_size(&self) -> usize {
+        SIGNATURE_SIZES[usize::from(self.signature_number())]
     }
 
-    pub fn chain(&self, slot: Slot) -> Option<Chain<'a>> {
-        self.chains[usize::from(slot.number())]
-    }
-
-    /// The filled slots and their chains, by rising slot.
-    pub fn chains(&self) -> impl Iterator<Item = (Slot, Chain<'a>)> + '_ {
-        (0..).zip(&self.chains).filter_map(|(number, chain)| chain.map(|chain| (Slot(number), chain)))
-    }
-
-    pub fn measurements(&self) -> impl ExactSizeIterator<Item = Measurement<'a>> + 'a {
-        self.measurements.chunks_exact(5 + self.hash_size()).map(|record| Measurement {
+    fn measurements(&self) -> impl ExactSizeIterator<Item = Measurement<'a>> {
+        self.measurement_records().chunks_exact(5 + self.hash_size()).map(|record| Measurement {
             index: Index(record[3]),
             kind: record[4],
             digest: &record[5..],
         })
     }
 
-    pub fn has_measurements(&self) -> bool {
-        !self.measurements.is_empty()
+    fn has_measurements(&self) -> bool {
+        !self.measurement_records().is_empty()
     }
 
     fn measurement(&self, index: Index) -> Option<Measurement<'a>> {
         self.measurements().find(|measurement| measurement.index == index)
     }
 
+    fn chain_count(&self) -> usize {
+        self.chains().count()
+    }
+
     fn slot_mask(&self) -> u8 {
         self.chains().fold(0, |mask, (slot, _)| mask | 1 << slot.number())
+    }
+
+    /// Writes the digests of all chains, by rising slot.
+    fn put_digests(&self, out: &mut Writer) {
+        for (_, chain) in self.chains() {
+            out.put(chain.digest);
+        }
     }
 
     /// A slot given by a whole byte, with its chain, if it is filled.
     fn filled(&self, number: u8) -> Option<(Slot, Chain<'a>)> {
         let slot = Slot::new(number)?;
         Some((slot, self.chain(slot)?))
+    }
+}
+
+impl<'a> Provision<'a> for Image<'a> {
+    fn ct_exponent(&self) -> u8 {
+        self.ct_exponent
+    }
+
+    fn hash_number(&self) -> u8 {
+        self.hash_number
+    }
+
+    fn signature_number(&self) -> u8 {
+        self.signature_number
+    }
+
+    fn hash_size(&self) -> usize {
+        HASH_SIZES[usize::from(self.hash_number)]
+    }
+
+    fn chain(&self, slot: Slot) -> Option<Chain<'a>> {
+        self.chains[usize::from(slot.number())]
+    }
+
+    fn chains(&self) -> impl Iterator<Item = (Slot, Chain<'a>)> {
+        (0..).zip(&self.chains).filter_map(|(number, chain)| chain.map(|chain| (Slot(number), chain)))
+    }
+
+    fn measurement_records(&self) -> &'a [u8] {
+        self.measurements
+    }
+
+    fn summaries(&self) -> Option<Summaries<'a>> {
+        self.summaries
     }
 }
 
@@ -318,11 +364,11 @@ struct State {
 
 impl State {
     /// Takes the host's words, unless they are outside their bounds.
-    fn load(words: &[u32], image: &Image) -> Result<State, Number> {
+    fn load<'i>(words: &[u32], image: &impl Provision<'i>) -> Result<State, Number> {
         Self::from_words(words, image).ok_or(Number::StateBounds)
     }
 
-    fn from_words(words: &[u32], image: &Image) -> Option<State> {
+    fn from_words<'i>(words: &[u32], image: &impl Provision<'i>) -> Option<State> {
         let &[phase, peer_size, selection, a, b, m, awaited, length] = words else {
             return None;
         };
@@ -443,7 +489,7 @@ impl Refusal {
 }
 
 /// Writes one part after another at the start of a buffer.
-struct Writer<'a> {
+pub struct Writer<'a> {
     buffer: &'a mut [u8],
     at: usize,
 }
@@ -454,7 +500,7 @@ impl<'a> Writer<'a> {
     }
 
     #[inline]
-    fn put(&mut self, bytes: &[u8]) {
+    pub(crate) fn put(&mut self, bytes: &[u8]) {
         self.buffer[self.at..self.at + bytes.len()].copy_from_slice(bytes);
         self.at += bytes.len();
     }
@@ -492,8 +538,8 @@ impl Region {
 }
 
 /// One request being answered: the buffers and everything that has been found in order so far.
-struct Exchange<'a> {
-    image: &'a Image<'a>,
+struct Exchange<'a, P> {
+    image: &'a P,
     state: State,
     transcript: &'a mut [u8],
     answer: &'a mut [u8],
@@ -509,7 +555,7 @@ struct Accepted {
 
 type Served = Result<Accepted, Refusal>;
 
-impl<'a> Exchange<'a> {
+impl<'a, 'i, P: Provision<'i>> Exchange<'a, P> {
     fn serve(self) -> Served {
         let request = self.request;
         let &[version, code, ..] = request else {
@@ -615,7 +661,7 @@ impl<'a> Exchange<'a> {
         let flags: u32 = if self.image.has_measurements() { 0x16 } else { 0x06 };
         let size = (MAX_MESSAGE as u32).to_le_bytes();
         let mut out = Writer::new(self.answer);
-        out.put(&[0x12, 0x61, 0, 0, 0, self.image.ct_exponent, 0, 0]);
+        out.put(&[0x12, 0x61, 0, 0, 0, self.image.ct_exponent(), 0, 0]);
         out.put(&flags.to_le_bytes());
         out.put(&size);
         out.put(&size);
@@ -636,14 +682,14 @@ impl<'a> Exchange<'a> {
         let extended = 4 * (usize::from(head[28]) + usize::from(head[29]));
         let structures = request.get(32 + extended..).ok_or(Refusal::InvalidRequest)?;
         check_structures(structures, head[2]).ok_or(Refusal::InvalidRequest)?;
-        let signature_bit = 1u32 << self.image.signature_number;
-        let hash_bit = 1u32 << self.image.hash_number;
+        let signature_bit = 1u32 << self.image.signature_number();
+        let hash_bit = 1u32 << self.image.hash_number();
         if u32_at(head, 8) & signature_bit == 0 || u32_at(head, 12) & hash_bit == 0 {
             return Err(Refusal::InvalidRequest);
         }
 
         let selected = self.image.has_measurements() && head[6] & 1 != 0;
-        let measurement_hash = if selected { 1u32 << (self.image.hash_number + 1) } else { 0 };
+        let measurement_hash = if selected { 1u32 << (self.image.hash_number() + 1) } else { 0 };
         let mut out = Writer::new(self.answer);
         out.put(&[0x12, 0x63, 0, 0, 36, 0, u8::from(selected), 0]);
         out.put(&measurement_hash.to_le_bytes());
@@ -659,14 +705,12 @@ impl<'a> Exchange<'a> {
 
     fn digests(mut self) -> Served {
         let request = self.layout(4)?;
-        let length = 4 + self.image.hash_size() * self.image.chains().count();
+        let length = 4 + self.image.hash_size() * self.image.chain_count();
         self.fits_peer(length)?;
         self.fits_region(Region::B, request.len() + length)?;
         let mut out = Writer::new(self.answer);
         out.put(&[0x12, 0x01, 0, self.image.slot_mask()]);
-        for (_, chain) in self.image.chains() {
-            out.put(chain.digest);
-        }
+        self.image.put_digests(&mut out);
         self.append(Region::B, request, length);
         Ok(Accepted { state: self.state, length })
     }
@@ -698,7 +742,7 @@ impl<'a> Exchange<'a> {
     fn challenge(mut self) -> Served {
         let request = self.layout(36)?;
         let (slot, chain) = self.image.filled(request[2]).ok_or(Refusal::InvalidRequest)?;
-        let summary: &[u8] = match (request[3], self.image.summaries) {
+        let summary: &[u8] = match (request[3], self.image.summaries()) {
             (0, _) => &[],
             (1, Some(summaries)) if self.state.selected => summaries.tcb,
             (0xFF, Some(summaries)) if self.state.selected => summaries.all,
@@ -800,7 +844,7 @@ fn check_buffers(transcript: &[u8], answer: &[u8]) -> Result<(), Number> {
 }
 
 /// A call's outcome as the host sees it: the number in the high half, or the answer's length.
-fn outcome(result: Result<usize, Number>) -> u32 {
+pub(crate) fn outcome(result: Result<usize, Number>) -> u32 {
     match result {
         Ok(length) => length as u32,
         Err(number) => (number as u32) << 16,
@@ -823,22 +867,21 @@ pub fn respond(
     request: &[u8],
     nonce: &[u8],
 ) -> u32 {
-    outcome(try_respond(image, state, transcript, answer, request, nonce))
+    outcome(Image::read(image).and_then(|image| try_respond(&image, state, transcript, answer, request, nonce)))
 }
 
-fn try_respond(
-    image: &[u8],
+pub(crate) fn try_respond<'i>(
+    image: &impl Provision<'i>,
     words: &mut [u32],
     transcript: &mut [u8],
     answer: &mut [u8],
     request: &[u8],
     nonce: &[u8],
 ) -> Result<usize, Number> {
-    let image = Image::read(image)?;
     check_buffers(transcript, answer)?;
     let nonce = nonce.try_into().map_err(|_| Number::NonceLength)?;
-    let state = State::load(words, &image)?;
-    let exchange = Exchange { image: &image, state, transcript, answer: &mut *answer, request, nonce };
+    let state = State::load(words, image)?;
+    let exchange = Exchange { image, state, transcript, answer: &mut *answer, request, nonce };
     match exchange.serve() {
         Ok(accepted) => {
             accepted.state.store(words);
@@ -858,20 +901,19 @@ pub fn finish(
     chip_ok: bool,
     signature: &[u8],
 ) -> u32 {
-    outcome(try_finish(image, state, transcript, answer, chip_ok, signature))
+    outcome(Image::read(image).and_then(|image| try_finish(&image, state, transcript, answer, chip_ok, signature)))
 }
 
-fn try_finish(
-    image: &[u8],
+pub(crate) fn try_finish<'i>(
+    image: &impl Provision<'i>,
     words: &mut [u32],
     transcript: &mut [u8],
     answer: &mut [u8],
     chip_ok: bool,
     signature: &[u8],
 ) -> Result<usize, Number> {
-    let image = Image::read(image)?;
     check_buffers(transcript, answer)?;
-    let mut state = State::load(words, &image)?;
+    let mut state = State::load(words, image)?;
     let awaited = state.awaited.take().ok_or(Number::NothingAwaited)?;
     if chip_ok && signature.len() != image.signature_size() {
         return Err(Number::SignatureLength);

@@ -1,11 +1,12 @@
-//! The vectors, through the plain responder and through the C interface: every line must agree.
+//! The vectors, through the plain responder, the tuned one and the C interface: every line must agree.
 
 mod common;
 
 use std::collections::HashMap;
 
 use common::{bytes, hex, read_lines};
-use spdm_check::{ffi, plain};
+use spdm_check::plain::Provision;
+use spdm_check::{ffi, plain, tuned};
 
 fn number<T: std::str::FromStr>(text: &str) -> T
 where
@@ -60,7 +61,8 @@ fn images() {
         if found != expected {
             faults.push(format!("base-images.txt:{at}: plain finds {found}, expected {expected}"));
         }
-        for (who, result) in [("plain", plain::read_image(&image)), ("library", ffi::read_image(&image))] {
+        let results = [plain::read_image(&image), tuned::read_image(&image), ffi::read_image(&image)];
+        for (who, result) in ["plain", "tuned", "library"].into_iter().zip(results) {
             if result != expected_number << 16 {
                 faults.push(format!("base-images.txt:{at}: {who} gives {result:#x}, expected {expected_number}"));
             }
@@ -169,6 +171,11 @@ fn check(who: &str, respond: Respond, finish: Finish) {
 #[test]
 fn runs_plain() {
     check("plain", plain::respond, plain::finish);
+}
+
+#[test]
+fn runs_tuned() {
+    check("tuned", tuned::respond, tuned::finish);
 }
 
 #[test]

@@ -3,7 +3,7 @@
 use mathlib.Core.Path.{_≡_, refl}
 use mathlib.Core.Bool.{Bool, true, false}
 use mathlib.Core.List.{List}
-use Prim.Native.Nat.{ℕ, _≤_}
+use Prim.Native.Nat.{ℕ, _≤_, _<_}
 use native.Mathlib.Omega.{arith}
 use lib.Dec.{T, leb, ltb, leb→le}
 use borrow.Author.Tests.{ltb-true, ltb-false}
@@ -30,3 +30,7 @@ digest-most n = table-fact digestMost digestSizes tt n
 pub signature-most : (n : ℕ) → signatureSize n ≤ signatureMost
 unfolding most signatureSize
 signature-most n = table-fact signatureMost signatureSizes tt n
+
+-- a size fits in any index
+pub size-fits : {x m : ℕ} → x ≤ m → m < 65536 → x < 18446744073709551616
+size-fits h k = omega arith

@@ -9,16 +9,17 @@ ghost use Prim.Native.Nat.{_≤_};
 ghost use Rattle.image.specs.Sizes.{digestSize, signatureSize, digestMost, signatureMost};
 ghost use Rattle.image.specs.Index.{slotNumberOf, measurementIndexOf};
 
-const DIGEST_SIZES: [usize; 6] = [32, 48, 64, 32, 48, 64];
+// Narrow entries: a table that is indexed stands on the stack, and is written there at each call.
+const DIGEST_SIZES: [u8; 6] = [32, 48, 64, 32, 48, 64];
 
-const SIGNATURE_SIZES: [usize; 9] = [256, 256, 384, 384, 64, 512, 512, 96, 132];
+const SIGNATURE_SIZES: [u16; 9] = [256, 256, 384, 384, 64, 512, 512, 96, 132];
 
 // The bytes of a digest of the hash with that bit number, 0 where there is none.
 pub fn digest_size(hash: u8) -> usize
     ensures { λ r. ⌜ (r ≡ digestSize hash) × (r ≤ digestMost) ⌝ }
 {
     let n = wire::wide(hash);
-    if n < 6 { DIGEST_SIZES[n] } else { 0 }
+    if n < 6 { DIGEST_SIZES[n] as usize } else { 0 }
 }
 
 // The bytes of a signature of the algorithm with that bit number, 0 where there is none.
@@ -26,7 +27,11 @@ pub fn signature_size(signature: u8) -> usize
     ensures { λ r. ⌜ (r ≡ signatureSize signature) × (r ≤ signatureMost) ⌝ }
 {
     let n = wire::wide(signature);
-    if n < 9 { SIGNATURE_SIZES[n] } else { 0 }
+    if n < 9 {
+        SIGNATURE_SIZES[n] as usize
+    } else {
+        0
+    }
 }
 
 // The number of a slot, 0 to 7: made only after its test.

@@ -18,6 +18,6 @@ frame-end frame.End p q = refl
 frame-end frame.Broken p q = ⊎-elim (λ w. absurd (omega arith)) (λ w. absurd (omega arith)) p
 
 pub record-end : (r : Record) → OneOf (0 ∷ 1 ∷ []) (tagOf record-type r) → OneOf (1 ∷ 2 ∷ []) (tagOf record-type r) → r ≡ rec.End
-record-end (rec.Good kind key start len next) p q = ⊎-elim (λ w. absurd (omega arith)) (λ w. absurd (omega arith)) q
+record-end (rec.Good kind start len next) p q = ⊎-elim (λ w. absurd (omega arith)) (λ w. absurd (omega arith)) q
 record-end rec.End p q = refl
 record-end (rec.Refused k) p q = ⊎-elim (λ w. absurd (omega arith)) (λ w. absurd (omega arith)) p

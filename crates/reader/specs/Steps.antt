@@ -32,27 +32,28 @@ frameAt b at =
     (frame.Whole (getD b (at + 2) 0) (at + headLength) (beAt 2 b at))))
 
 -- a record at a place, held against those before it
-unfoldable pub heldRecord : ℕ → ℕ → ℕ → ℕ → Held → Record
-heldRecord kind key start len (held.Good next) = rec.Good kind key start len next
-heldRecord kind key start len (held.Fault k) = rec.Refused k
+unfoldable pub heldRecord : ℕ → ℕ → ℕ → Held → Record
+heldRecord kind start len (held.Good next) = rec.Good kind start len next
+heldRecord kind start len (held.Fault k) = rec.Refused k
 
 unfoldable pub recordOf : List ℕ → Seen → Frame → Record
 recordOf b w frame.End = pick (eqb (endFault w) 0) rec.End (rec.Refused (endFault w))
 recordOf b w frame.Broken = rec.Refused brokenRecord
-recordOf b w (frame.Whole kind start len) = heldRecord kind (getD (part b start len) 0 0) start len (heldOf w kind (part b start len))
+recordOf b w (frame.Whole kind start len) = heldRecord kind start len (heldOf w kind (part b start len))
 
 -- contents of which only the identity was read
 abbrev pub identityAt : ℕ → ℕ → ℕ → Contents
 identityAt exponent hash signature = record { exponent = exponent; hash = hash; signature = signature; chains = []; measurements = []; summaries = [] }
 
--- where the records stand past a good one with that key
+-- where the records stand past a good one: each chain by its slot, and the first measurement behind those that w has seen
+abbrev pub bodiesAfter : List ℕ → ℕ → ℕ → ℕ → List ℕ
+bodiesAfter bodies kind slot start = pick (eqb kind chainKind) (set bodies slot start) bodies
+
+abbrev pub firstAfter : ℕ → Seen → ℕ → ℕ → ℕ
+firstAfter first w kind start = pick (eqb kind measurementKind) (pick (eqb (w .measurements) 0) start first) first
+
 abbrev pub placesAfter : Places → Seen → ℕ → ℕ → ℕ → Places
-placesAfter p w kind key start =
-    pick (eqb kind chainKind)
-    (record { bodies = set (p .bodies) key start; first = p .first })
-    (pick (eqb kind measurementKind)
-    (pick (eqb (w .measurements) 0) (record { bodies = p .bodies; first = start }) p)
-    p)
+placesAfter p w kind slot start = record { bodies = bodiesAfter (p .bodies) kind slot start; first = firstAfter (p .first) w kind start }
 
 abbrev pub indexFrom : ℕ → ℕ → ℕ → Seen → Places → Index
 indexFrom exponent hash signature w p = record {

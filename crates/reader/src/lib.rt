@@ -10,19 +10,23 @@ use image::limits::IDENTITY_END;
 use image::limits::IDENTITY_KIND;
 use image::limits::IMAGE_LIMIT;
 use image::limits::IMAGE_VERSION;
+use image::limits::INDEX_LIMIT;
 use image::limits::MEASUREMENT_KIND;
+use image::limits::MEASUREMENTS_LIMIT;
+use image::limits::TYPE_LIMIT;
 use image::limits::WRONG_KIND;
 use image::limits::WRONG_SIZE;
 use image::limits::WRONG_VERSION;
 use records::Held;
 ghost use mathlib.Core.Path.{_≡_};
 ghost use mathlib.Core.List.{[], _∷_};
-ghost use Prim.Native.Nat.{_≤_};
+ghost use Prim.Native.Nat.{_+_, _≤_};
 ghost use lib.ListN.{length};
 ghost use Rattle.image.specs.Limits.{imageLimit, slotLimit, chainKind, identityEnd};
 ghost use Rattle.image.specs.Reading.{reading, readAll, readOn, identityFault};
 ghost use Rattle.image.specs.Index.{refusedBy, acceptedAt, answerOf};
-ghost use Rattle.reader.specs.Steps.{framesAt, frameAt, recordOf, identityAt, placesAfter, indexFrom};
+ghost use Rattle.reader.specs.Steps.{framesAt, frameAt, recordOf, identityAt, bodiesAfter, firstAfter, indexFrom};
+ghost use Rattle.reader.specs.Runs.{Head, Measuring, Run as Running, measured};
 
 // Where the body of each slot's record starts (0: not filled), and that of the first measurement.
 struct Places {
@@ -37,12 +41,10 @@ enum Frame {
     Broken,
 }
 
-// A record held against those before it. The key of a good one is its body's first byte: the slot of a chain, the index of a
-// measurement; next is what is seen past it.
+// A record held against those before it; next is what is seen past a good one.
 enum Record {
     Good {
         kind: u8,
-        key: u8,
         start: usize,
         len: usize,
         next: Seen,
@@ -87,13 +89,10 @@ fn read_record(s: &[u8], at: usize, w: Seen) -> Record
         };
         return Record::Refused(BROKEN_RECORD);
     };
-    let body = wire::part_of(s, start, len);
-    let key = wire::byte_at(body, 0);
-    let held = records::hold(w, kind, body);
+    let held = records::hold(w, kind, &s[start..start + len]);
     match held {
         Held::Good(next) => Record::Good {
             kind,
-            key,
             start,
             len,
             next,
@@ -137,54 +136,122 @@ fn accepted(exponent: u8, hash: u8, signature: u8, w: Seen, p: Places) -> Image
     }
 }
 
-fn places_after(p: Places, w: Seen, kind: u8, key: u8, start: usize) -> Places
-    requires { ⌜ (start ≤ imageLimit) × (kind ≡ chainKind → key ≤ slotLimit) ⌝ }
-    ensures { λ r. ⌜ r ≡ placesAfter p w kind key start ⌝ }
+// In place: an array that is made anew for each record is copied for each, and the copy waits for the entry written before it.
+fn place_chain(bodies: &mut [u16; 8], kind: u8, slot: u8, start: usize)
+    requires { ⌜ (start ≤ imageLimit) × (kind ≡ chainKind → slot ≤ slotLimit) ⌝ }
+    ensures { λ _. ⌜ now (bodies .exit) ≡ bodiesAfter (now (bodies .entry)) kind slot start ⌝ }
 {
-    let mut next = p;
     if kind == CHAIN_KIND {
-        let k = wire::wide(key);
-        next.bodies[k] = start as u16;
-        return next;
+        let k = wire::wide(slot);
+        bodies[k] = start as u16;
     }
-    if kind == MEASUREMENT_KIND {
-        if w.measurements == 0 {
-            next.first = start as u16;
-            return next;
-        }
-    }
-    next
 }
 
-// The records behind the identity, one after the other, each looked at once.
+fn first_after(first: u16, w: Seen, kind: u8, start: usize) -> u16
+    requires { ⌜ start ≤ imageLimit ⌝ }
+    ensures { λ r. ⌜ r ≡ firstAfter first w kind start ⌝ }
+{
+    if kind == MEASUREMENT_KIND {
+        if w.measurements == 0 {
+            return start as u16;
+        }
+    }
+    first
+}
+
+// Behind a run of good measurement records: the place, how many measurements there are up to it, and the index of the last.
+struct Run {
+    at: usize,
+    measurements: u8,
+    index: u8,
+}
+
+// Length, kind and the body's first byte of the record at a place, as one number.
+fn head_at(s: &[u8], at: usize) -> usize
+    requires { ⌜ at + 4 ≤ length (now s) ⌝ }
+    ensures { λ r. ⌜ Head (now (s .entry)) at r ⌝ }
+{
+    wire::wide(s[at]) * 16777216
+        + wire::wide(s[at + 1]) * 65536
+        + wire::wide(s[at + 2]) * 256
+        + wire::wide(s[at + 3])
+}
+
+fn least(a: usize, b: usize) -> usize
+    ensures { λ r. ⌜ (r ≤ a) × (r ≤ b) ⌝ }
+{
+    if a < b { a } else { b }
+}
+
+// Good measurement records that stand one behind the other, from a place behind a good one on. They are all of one length, and their
+// heads, index included, rise from one to the next. Where the run ends, the plain step says what stands there.
+fn run_from(s: &[u8], from: usize, w: Seen) -> Run
+    requires { ⌜ (from ≤ length (now s)) × ((length (now s) ≤ imageLimit) × Measuring w) ⌝ }
+    ensures { λ r. ⌜ Running (now (s .entry)) from w (r .at) (measured w (r .measurements) (r .index)) ⌝ }
+{
+    let size = wire::wide(w.size);
+    let stride = HEAD_LENGTH + (2 + size);
+    let base = (2 + size) * 65536 + wire::wide(MEASUREMENT_KIND) * 256;
+    let room = wire::wide(MEASUREMENTS_LIMIT - w.measurements) * stride;
+    let end = least(s.len(), from + room);
+    let mut at: usize = from;
+    let mut n: u8 = w.measurements;
+    let mut last = base + wire::wide(w.index);
+    while at + stride <= end {
+        let head = head_at(s, at);
+        if head <= last {
+            break;
+        }
+        if base + wire::wide(INDEX_LIMIT) < head {
+            break;
+        }
+        if TYPE_LIMIT < s[at + HEAD_LENGTH + 1] {
+            break;
+        }
+        last = head;
+        n = n + 1;
+        at = at + stride;
+    }
+    Run {
+        at,
+        measurements: n,
+        index: (last - base) as u8,
+    }
+}
+
+// The records behind the identity, one after the other, each looked at once; measurements behind the first by runs.
 fn walk(s: &[u8], exponent: u8, hash: u8, signature: u8) -> Image
     requires { ⌜ (length (now s) ≤ imageLimit) × (identityFault (exponent ∷ hash ∷ signature ∷ []) ≡ 0) ⌝ }
     ensures { λ r. ⌜ r ≡ answerOf (readOn (identityAt exponent hash signature) (framesAt (now (s .entry)) identityEnd)) ⌝ }
 {
     let mut at: usize = IDENTITY_END;
     let mut w = records::seen_first(hash);
-    let mut places = Places {
-        bodies: [0; 8],
-        first: 0,
-    };
+    let mut bodies: [u16; 8] = [0; 8];
+    let mut first: u16 = 0;
     loop {
         let r = read_record(s, at, w);
         let Record::Good {
             kind,
-            key,
             start,
             len,
             next,
         } = r
         else {
             let Record::Refused(number) = r else {
-                break accepted(exponent, hash, signature, w, places);
+                break accepted(exponent, hash, signature, w, Places { bodies, first });
             };
             break refused(number);
         };
-        places = places_after(places, w, kind, key, start);
+        place_chain(&mut bodies, kind, next.slot, start);
+        first = first_after(first, w, kind, start);
         w = next;
         at = start + len;
+        if kind == MEASUREMENT_KIND {
+            let run = run_from(s, at, w);
+            at = run.at;
+            w.measurements = run.measurements;
+            w.index = run.index;
+        }
     }
 }
 

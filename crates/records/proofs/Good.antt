@@ -24,8 +24,9 @@ pub record ChainFine (w : Seen) (body : List ℕ) : Type 0 where
   pub most : length body ≤ 1 + w .size + chainLimit
   pub slot : getD body 0 0 ≤ slotLimit
 
--- a measurement comes before the summary
+-- a measurement comes behind a chain and before the summary
 pub record MeasurementFine (w : Seen) (body : List ℕ) : Type 0 where
+  pub chained : 0 < w .chains
   pub first : w .summaries ≤ 0
   pub room : w .measurements < measurementsLimit
   pub whole : length body ≡ 2 + w .size
@@ -54,7 +55,8 @@ module _ (w : Seen) (kind : ℕ) (body : List ℕ) (f : recordFault w kind body 
       let a₂ = not-first _ _ _ _ (a₁ .1) (λ z. omega arith) in
       let a₃ = not-first _ _ _ _ (a₂ .1) (λ z. omega arith) in
       let a₄ = not-second _ _ _ _ (a₃ .1) (λ z. omega arith) in
-      record { first = ltb-false _ _ (a₂ .0); room = leb-false _ _ (a₃ .0); whole = eqb-true _ _ (a₄ .0) }
+      let z : w .chains ≡ 0 → ⊥ = eqb-false _ _ (a₁ .0) in
+      record { chained = omega arith; first = ltb-false _ _ (a₂ .0); room = leb-false _ _ (a₃ .0); whole = eqb-true _ _ (a₄ .0) }
 
   -- what is neither is a summary
   pub summary-fine : (kind ≡ chainKind → ⊥) → (kind ≡ measurementKind → ⊥) → SummaryFine w body

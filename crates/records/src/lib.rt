@@ -20,9 +20,10 @@ use image::limits::WRONG_KIND;
 use image::limits::WRONG_LENGTH;
 use image::limits::WRONG_OWN_LENGTH;
 ghost use mathlib.Core.Path.{_≡_};
-ghost use lib.ListN.{getD};
-ghost use Rattle.image.specs.Reading.{identityFault, slotWrong, chainFault, measurementFault, summaryFault, recordFault, endFault};
-ghost use Rattle.records.specs.Records.{seenFirst, seenAfter, heldOf};
+ghost use Prim.Native.Nat.{_+_, _≤_};
+ghost use lib.ListN.{length, getD};
+ghost use Rattle.image.specs.Reading.{identityFault, chainFault, measurementFault, summaryFault, recordFault, endFault};
+ghost use Rattle.records.specs.Records.{seenFirst, seenAfter, ownFault, heldOf};
 
 // A record held against those before it: what is seen past it, or the number of its fault.
 pub enum Held {
@@ -63,10 +64,16 @@ pub fn identity_fault(body: &[u8]) -> u8
     0
 }
 
-fn slot_wrong(chains: u8, last: u8, slot: u8) -> bool
-    ensures { λ r. ⌜ r ≡ slotWrong chains last slot ⌝ }
+// A chain's own length, which stands behind the slot and the digest.
+fn own_fault(body: &[u8], size: usize) -> u8
+    requires { ⌜ 1 + size ≤ length (now body) ⌝ }
+    ensures { λ r. ⌜ r ≡ ownFault size (now (body .entry)) ⌝ }
 {
-    if chains == 0 { 0 < slot } else { slot <= last }
+    let own = wire::get_u16le(body, 1 + size) as usize;
+    if own != body.len() - (1 + size) {
+        return WRONG_OWN_LENGTH;
+    }
+    0
 }
 
 fn chain_fault(w: Seen, body: &[u8]) -> u8
@@ -89,14 +96,14 @@ fn chain_fault(w: Seen, body: &[u8]) -> u8
     if SLOT_LIMIT < slot {
         return WRONG_FIELD;
     }
-    if slot_wrong(w.chains, w.slot, slot) {
+    if w.chains == 0 {
+        if 0 < slot {
+            return WRONG_FIELD;
+        }
+    } else if slot <= w.slot {
         return WRONG_FIELD;
     }
-    let own = wire::get_u16le(body, 1 + size) as usize;
-    if own != body.len() - (1 + size) {
-        return WRONG_OWN_LENGTH;
-    }
-    0
+    own_fault(body, size)
 }
 
 fn measurement_fault(w: Seen, body: &[u8]) -> u8

@@ -1,56 +1,54 @@
-//! Times the proved responder, through its C interface, against the plain one.
+//! Times the proved responder, through its C interface, against the plain one and the tuned one.
 //!
-//! Both get the same image, requests and buffers' sizes, and each its own buffers, which are made once and not
-//! cleared between calls. Repeats are interleaved (plain, library, library, plain, ..), and the fastest and the
-//! median of each are shown. Times are the thread's own processor time, so that other work on the machine counts
-//! less. `SPDM_REPEATS` says how many repeats, `SPDM_DIGESTS` how many GET_DIGESTS each has.
+//! All three get the same images, requests and buffers' sizes, and each its own buffers, which are made once and not
+//! cleared between calls. Repeats are interleaved, each time in another order, and the fastest and the median of each
+//! are shown; the spread is the slowest over the fastest, the worst of the three. Times are the thread's own processor
+//! time, so that other work on the machine counts less. `SPDM_REPEATS` says how many repeats, `SPDM_DIGESTS` how many
+//! GET_DIGESTS each has.
+//!
+//! Instructions a call are counted by valgrind's callgrind, which runs this program again; without valgrind that
+//! column is empty. `SPDM_COUNTED` says how many calls are counted (0: none).
 
 use std::hint::black_box;
+use std::process::Command;
 use std::time::Duration;
 
-use spdm_check::{ffi, plain};
+use spdm_check::{ffi, plain, tuned};
 
-/// The two sides. Calls are direct on both: no table of functions, and neither is inlined.
+/// The sides. Calls are direct on each: no table of functions, and none is inlined.
 trait Responder {
-    const NAME: &'static str;
     fn respond(image: &[u8], buffers: &mut Buffers, request: &[u8], nonce: &[u8]) -> u32;
     fn finish(image: &[u8], buffers: &mut Buffers, signature: &[u8]) -> u32;
 }
 
-struct Plain;
-struct Library;
+macro_rules! side {
+    ($side:ident, $module:ident) => {
+        struct $side;
 
-impl Responder for Plain {
-    const NAME: &'static str = "plain";
+        impl Responder for $side {
+            #[inline(always)]
+            fn respond(image: &[u8], buffers: &mut Buffers, request: &[u8], nonce: &[u8]) -> u32 {
+                let Buffers { state, transcript, answer } = buffers;
+                $module::respond(image, state, transcript, answer, request, nonce)
+            }
 
-    #[inline(always)]
-    fn respond(image: &[u8], buffers: &mut Buffers, request: &[u8], nonce: &[u8]) -> u32 {
-        let Buffers { state, transcript, answer } = buffers;
-        plain::respond(image, state, transcript, answer, request, nonce)
-    }
-
-    #[inline(always)]
-    fn finish(image: &[u8], buffers: &mut Buffers, signature: &[u8]) -> u32 {
-        let Buffers { state, transcript, answer } = buffers;
-        plain::finish(image, state, transcript, answer, true, signature)
-    }
+            #[inline(always)]
+            fn finish(image: &[u8], buffers: &mut Buffers, signature: &[u8]) -> u32 {
+                let Buffers { state, transcript, answer } = buffers;
+                $module::finish(image, state, transcript, answer, true, signature)
+            }
+        }
+    };
 }
 
-impl Responder for Library {
-    const NAME: &'static str = "library";
+side!(Plain, plain);
+side!(Tuned, tuned);
+side!(Library, ffi);
 
-    #[inline(always)]
-    fn respond(image: &[u8], buffers: &mut Buffers, request: &[u8], nonce: &[u8]) -> u32 {
-        let Buffers { state, transcript, answer } = buffers;
-        ffi::respond(image, state, transcript, answer, request, nonce)
-    }
-
-    #[inline(always)]
-    fn finish(image: &[u8], buffers: &mut Buffers, signature: &[u8]) -> u32 {
-        let Buffers { state, transcript, answer } = buffers;
-        ffi::finish(image, state, transcript, answer, true, signature)
-    }
-}
+const SIDES: [&str; 3] = ["plain", "tuned", "library"];
+const PLAIN: usize = 0;
+const TUNED: usize = 1;
+const LIBRARY: usize = 2;
 
 /// The processor time this thread has had. (The C library is linked by std; Linux, 64 bits.)
 fn processor_time() -> Duration {
@@ -70,41 +68,57 @@ fn processor_time() -> Duration {
     Duration::new(time.seconds as u64, time.nanoseconds as u32)
 }
 
+#[derive(PartialEq)]
 struct Buffers {
     state: [u32; 8],
     transcript: Vec<u8>,
     answer: Vec<u8>,
 }
 
-const CHAINS: usize = 8;
-const CHAIN: usize = 4_096;
-const MEASUREMENTS: usize = 32;
+impl Buffers {
+    fn new() -> Buffers {
+        Buffers { state: [0; 8], transcript: vec![0; 16_384], answer: vec![0; 4_608] }
+    }
+}
+
+/// What a box is provisioned with; SHA-256 and P-256 in each.
+#[derive(Clone, Copy, PartialEq)]
+struct Provision {
+    chains: usize,
+    chain: usize,
+    measurements: usize,
+}
+
+const FULL: Provision = Provision { chains: 8, chain: 4_096, measurements: 32 };
 const HASH: usize = 32;
 const SIGNATURE: usize = 64;
 
-/// SHA-256, P-256, eight chains, 32 measurements.
-fn provision() -> Vec<u8> {
-    let mut image = vec![1];
-    let mut record = |kind: u8, body: &[u8]| {
-        image.extend((body.len() as u16).to_be_bytes());
-        image.push(kind);
-        image.extend(body);
-    };
-    record(1, &[14, 0, 4]);
-    for slot in 0..CHAINS {
-        let mut body = vec![slot as u8];
-        body.extend((0..HASH).map(|i| (i + slot) as u8));
-        body.extend((CHAIN as u16).to_le_bytes());
-        body.extend((2..CHAIN).map(|i| (i * 7 + slot) as u8));
-        record(2, &body);
+impl Provision {
+    fn image(self) -> Vec<u8> {
+        let mut image = vec![1];
+        let mut record = |kind: u8, body: &[u8]| {
+            image.extend((body.len() as u16).to_be_bytes());
+            image.push(kind);
+            image.extend(body);
+        };
+        record(1, &[14, 0, 4]);
+        for slot in 0..self.chains {
+            let mut body = vec![slot as u8];
+            body.extend((0..HASH).map(|i| (i + slot) as u8));
+            body.extend((self.chain as u16).to_le_bytes());
+            body.extend((2..self.chain).map(|i| (i * 7 + slot) as u8));
+            record(2, &body);
+        }
+        for index in 1..=self.measurements {
+            let mut body = vec![index as u8, (index % 4) as u8];
+            body.extend((0..HASH).map(|i| (i * index) as u8));
+            record(3, &body);
+        }
+        if self.measurements > 0 {
+            record(4, &[0xA5; 2 * HASH]);
+        }
+        image
     }
-    for index in 1..=MEASUREMENTS {
-        let mut body = vec![index as u8, (index % 4) as u8];
-        body.extend((0..HASH).map(|i| (i * index) as u8));
-        record(3, &body);
-    }
-    record(4, &[0xA5; 2 * HASH]);
-    image
 }
 
 /// One step of a piece of work.
@@ -117,21 +131,23 @@ enum Step {
 
 struct Work {
     name: String,
+    on: Provision,
     steps: Vec<Step>,
     times: usize,
 }
 
 impl Work {
-    fn calls(&self) -> usize {
-        self.times * self.steps.iter().filter(|step| !matches!(step, Step::State(_))).count()
+    /// Calls of one time through the steps.
+    fn calls_each(&self) -> usize {
+        self.steps.iter().filter(|step| !matches!(step, Step::State(_))).count()
     }
 
-    /// Does the work once; gives the time and the sum of all results.
-    fn run<R: Responder>(&self, image: &[u8], buffers: &mut Buffers) -> (Duration, u64) {
+    /// Goes through the steps that many times; gives the time and the sum of all results.
+    fn run_on<R: Responder>(&self, image: &[u8], buffers: &mut Buffers, times: usize) -> (Duration, u64) {
         let (nonce, signature) = ([0x3C; 32], [0xC3; SIGNATURE]);
         let mut sum = 0;
         let start = processor_time();
-        for _ in 0..self.times {
+        for _ in 0..times {
             for step in &self.steps {
                 sum += u64::from(match step {
                     Step::State(state) => {
@@ -145,6 +161,14 @@ impl Work {
         }
         (processor_time() - start, black_box(sum))
     }
+
+    fn run(&self, side: usize, image: &[u8], buffers: &mut Buffers, times: usize) -> (Duration, u64) {
+        match side {
+            PLAIN => self.run_on::<Plain>(image, buffers, times),
+            TUNED => self.run_on::<Tuned>(image, buffers, times),
+            _ => self.run_on::<Library>(image, buffers, times),
+        }
+    }
 }
 
 fn handshake(peer_size: u32) -> Vec<Step> {
@@ -157,13 +181,19 @@ fn handshake(peer_size: u32) -> Vec<Step> {
     vec![Step::Respond(vec![0x10, 0x84, 0, 0]), Step::Respond(capabilities), Step::Respond(algorithms)]
 }
 
+/// A negotiated state without measurements, which every image allows.
 fn negotiated(peer_size: u32) -> [u32; 8] {
-    [3, peer_size, 1, 52 + 32 + 36, 0, 0, 0, 0]
+    [3, peer_size, 0, 52 + 32 + 36, 0, 0, 0, 0]
+}
+
+/// The same with measurements.
+fn measuring() -> [u32; 8] {
+    [3, 4_608, 1, 52 + 32 + 36, 0, 0, 0, 0]
 }
 
 /// Reads of slot 3 from its start to its end, `portion` bytes at a time.
 fn reads(portion: usize) -> Vec<Step> {
-    (0..CHAIN)
+    (0..FULL.chain)
         .step_by(portion)
         .map(|offset| {
             let [low, high] = (offset as u16).to_le_bytes();
@@ -197,37 +227,59 @@ fn signed() -> Vec<Step> {
     vec![Step::Respond(challenge), Step::Finish, Step::Respond(measurements), Step::Finish]
 }
 
+fn get_digests() -> Vec<Step> {
+    vec![Step::State(negotiated(4_608)), Step::Respond(vec![0x12, 0x81, 0, 0])]
+}
+
+fn work(name: &str, on: Provision, steps: Vec<Step>, calls: usize) -> Work {
+    let mut work = Work { name: name.to_owned(), on, steps, times: 0 };
+    work.times = (calls / work.calls_each()).max(1);
+    work
+}
+
 fn works(digests: usize) -> Vec<Work> {
-    let get_digests = || Step::Respond(vec![0x12, 0x81, 0, 0]);
-    let work = |name: &str, steps: Vec<Step>, times: usize| Work { name: name.to_owned(), steps, times };
     let from = |state: [u32; 8], steps: Vec<Step>| {
         let mut all = vec![Step::State(state)];
         all.extend(steps);
         all
     };
-    let scaled = |calls: usize, each: usize| (calls / each).max(1);
     let fifth = digests / 5;
     let mut mixed = handshake(4_608);
-    mixed.push(get_digests());
+    mixed.push(Step::Respond(vec![0x12, 0x81, 0, 0]));
     mixed.extend(reads(1_024));
     mixed.extend(signed());
     mixed.extend(refusals());
     mixed.extend(handshake(42));
     mixed.extend(reads(34));
     mixed.extend(refusals());
-    let mixed_calls = mixed.len();
-    vec![
-        work("GET_DIGESTS", from(negotiated(4_608), vec![get_digests()]), digests),
-        work("handshake", handshake(4_608), scaled(fifth, 3)),
-        work("chain by 34", from(negotiated(42), reads(34)), scaled(fifth, CHAIN.div_ceil(34))),
-        work("chain by 1024", from(negotiated(4_608), reads(1_024)), scaled(fifth, 4)),
-        work("refusals", from(negotiated(4_608), refusals()), scaled(fifth, 8)),
-        work("signed, finished", from(negotiated(4_608), signed()), scaled(fifth, 4)),
-        work("all mixed", mixed, scaled(fifth, mixed_calls)),
-    ]
+    let mut all = vec![
+        work("GET_DIGESTS", FULL, get_digests(), digests),
+        work("handshake", FULL, handshake(4_608), fifth),
+        work("chain by 34", FULL, from(negotiated(42), reads(34)), fifth),
+        work("chain by 1024", FULL, from(negotiated(4_608), reads(1_024)), fifth),
+        work("refusals", FULL, from(measuring(), refusals()), fifth),
+        work("signed, finished", FULL, from(measuring(), signed()), fifth),
+        work("all mixed", FULL, mixed, fifth),
+    ];
+    // GET_DIGESTS again, by what the image holds.
+    for (chains, chain, measurements) in [
+        (1, 64, 0),
+        (1, 64, 1),
+        (1, 64, 8),
+        (1, 64, 32),
+        (2, 64, 0),
+        (4, 64, 0),
+        (8, 64, 0),
+        (8, 1_024, 0),
+        (8, 4_096, 0),
+    ] {
+        let name = format!("{chains} of {chain}, {measurements}");
+        all.push(work(&name, Provision { chains, chain, measurements }, get_digests(), fifth));
+    }
+    all
 }
 
-#[derive(Clone, Copy)]
+#[derive(Clone, Copy, Default)]
 struct Figures {
     fastest: f64,
     median: f64,
@@ -241,78 +293,128 @@ fn figures(times: &mut [Duration], calls: usize) -> Figures {
     Figures { fastest: each(times[0]), median: each(times[times.len() / 2]), slowest: each(times[times.len() - 1]) }
 }
 
+/// Does the work on every side, in turn, and holds the results and buffers of all to the first's.
+fn timed(work: &Work, repeats: usize) -> [Figures; 3] {
+    let image = work.on.image();
+    let reads = (plain::read_image(&image), tuned::read_image(&image), ffi::read_image(&image));
+    assert_eq!(reads, (0, 0, 0), "the image is not accepted");
+    let mut buffers = SIDES.map(|_| Buffers::new());
+    let mut times = SIDES.map(|_| Vec::new());
+    for repeat in 0..=repeats {
+        let mut sums = [0; 3];
+        for turn in 0..SIDES.len() {
+            let side = (repeat + if repeat % 2 == 0 { turn } else { SIDES.len() - turn }) % SIDES.len();
+            let (time, sum) = work.run(side, &image, &mut buffers[side], work.times);
+            sums[side] = sum;
+            // The first repeat warms up.
+            if repeat > 0 {
+                times[side].push(time);
+            }
+        }
+        for (side, sum) in SIDES.iter().zip(sums) {
+            assert_eq!(sum, sums[PLAIN], "{}: {side} gives other results", work.name);
+        }
+    }
+    for (side, left) in SIDES.iter().zip(&buffers) {
+        assert!(*left == buffers[PLAIN], "{}: {side} leaves other bytes", work.name);
+    }
+    times.map(|mut times| figures(&mut times, work.times * work.calls_each()))
+}
+
+/// Callgrind's count of this program going through a work's steps that many times.
+fn counted(work: usize, side: usize, times: usize) -> Option<f64> {
+    let run = Command::new("valgrind")
+        .args(["--tool=callgrind", "--callgrind-out-file=/dev/null"])
+        .arg(std::env::current_exe().ok()?)
+        .args(["count".to_owned(), work.to_string(), side.to_string(), times.to_string()])
+        .output()
+        .ok()?;
+    let said = String::from_utf8_lossy(&run.stderr).into_owned();
+    let count = said.lines().find_map(|line| line.split_once("Collected : "))?.1;
+    count.trim().parse().ok()
+}
+
+/// Instructions a call: what more times through the steps cost.
+fn instructions(works: &[Work], work: usize, side: usize, calls: usize) -> Option<f64> {
+    let each = works[work].calls_each();
+    let times = (calls / each).max(1);
+    Some((counted(work, side, times + 1)? - counted(work, side, 1)?) / (times * each) as f64)
+}
+
 fn from_env(name: &str, default: usize) -> usize {
     std::env::var(name).map_or(default, |text| text.parse().unwrap_or_else(|error| panic!("{name}={text}: {error}")))
 }
 
+fn print_line(name: &str, figures: &[Figures; 3], counts: &[Option<f64>; 3]) {
+    print!("{name:<17}");
+    for (side, count) in figures.iter().zip(counts) {
+        let count = count.map_or(String::new(), |count| format!("{count:.0}"));
+        print!(" | {:>6.1} {:>6.1} {count:>5}", side.fastest, side.median);
+    }
+    let [plain, tuned, library] = figures;
+    let spread = figures.iter().map(|side| side.slowest / side.fastest - 1.0).fold(0.0, f64::max);
+    println!(
+        " | {:>6.2} {:>6.2} | {:>6.2} {:>6.2} | {:>4.0} %",
+        library.fastest / plain.fastest,
+        library.median / plain.median,
+        library.fastest / tuned.fastest,
+        library.median / tuned.median,
+        spread * 100.0
+    );
+}
+
 fn main() {
+    let works = works(from_env("SPDM_DIGESTS", 1_000_000).max(5));
+    let words: Vec<String> = std::env::args().skip(1).collect();
+    if let [count, numbers @ ..] = &words[..] {
+        let numbers: Vec<usize> = numbers.iter().map(|word| word.parse().expect("a number")).collect();
+        let ("count", &[work, side, times]) = (count.as_str(), &numbers[..]) else {
+            panic!("usage: bench [count WORK SIDE TIMES]");
+        };
+        let work = &works[work];
+        work.run(side, &work.on.image(), &mut Buffers::new(), times);
+        return;
+    }
     if cfg!(debug_assertions) {
         println!("NOT OPTIMISED: run with --release");
     }
     let repeats = from_env("SPDM_REPEATS", 11).max(1);
-    let digests = from_env("SPDM_DIGESTS", 1_000_000).max(1);
-    let image = provision();
-    assert_eq!((plain::read_image(&image), ffi::read_image(&image)), (0, 0), "the image is not accepted");
-    let buffers = || Buffers { state: [0; 8], transcript: vec![0; 16_384], answer: vec![0; 4_608] };
-    let (mut plain_buffers, mut library_buffers) = (buffers(), buffers());
-
+    let calls = from_env("SPDM_COUNTED", 2_000);
     println!(
-        "image: {} bytes, {CHAINS} chains of {CHAIN}, {MEASUREMENTS} measurements; {repeats} repeats, interleaved; \
-         buffers are not cleared between calls",
-        image.len()
-    );
-    println!("nanoseconds of processor time a call:");
-    println!(
-        "{:<17} {:>9} | {:>8} {:>8} {:>8} | {:>8} {:>8} {:>8} | {:>21}",
-        "", "", "plain", "", "", "library", "", "", "library / plain"
+        "An image of {} bytes: {} chains of {}, {} measurements. The lines below \"all mixed\" are GET_DIGESTS of other images:",
+        FULL.image().len(),
+        FULL.chains,
+        FULL.chain,
+        FULL.measurements
     );
     println!(
-        "{:<17} {:>9} | {:>8} {:>8} {:>8} | {:>8} {:>8} {:>8} | {:>10} {:>10}",
-        "work", "calls", "fastest", "median", "slowest", "fastest", "median", "slowest", "fastest", "median"
+        "chains of their length, measurements. {repeats} repeats, interleaved; buffers are not cleared between calls."
     );
-    for work in works(digests) {
-        let (mut plain_times, mut library_times) = (Vec::new(), Vec::new());
-        for repeat in 0..=repeats {
-            let mut plain = || work.run::<Plain>(&image, &mut plain_buffers);
-            let mut library = || work.run::<Library>(&image, &mut library_buffers);
-            let ((plain_time, plain_sum), (library_time, library_sum)) = if repeat % 2 == 0 {
-                let first = plain();
-                (first, library())
-            } else {
-                let first = library();
-                (plain(), first)
-            };
-            assert_eq!(
-                plain_sum,
-                library_sum,
-                "{}: {} and {} give different results",
+    println!("Nanoseconds of processor time a call, and instructions a call:");
+    println!(
+        "{:<17} | {:<20} | {:<20} | {:<20} | {:<13} | {:<13} |",
+        "", "plain", "tuned", "library", "library/plain", "library/tuned"
+    );
+    print!("{:<17}", "work");
+    (0..3).for_each(|_| print!(" | {:>6} {:>6} {:>5}", "fast", "median", "instr"));
+    println!(" | {:>6} {:>6} | {:>6} {:>6} | spread", "fast", "median", "fast", "median");
+    let mut wanted = String::new();
+    for (at, work) in works.iter().enumerate() {
+        let figures = timed(work, repeats);
+        if at == 0 {
+            let [plain, tuned, library] = figures;
+            wanted = format!(
+                "{}, by the median: {:.2} of plain Rust (wanted: at most 1.00), {:.2} of tuned Rust (wanted: at most 1.50)",
                 work.name,
-                Plain::NAME,
-                Library::NAME
+                library.median / plain.median,
+                library.median / tuned.median
             );
-            // The first repeat warms up.
-            if repeat > 0 {
-                plain_times.push(plain_time);
-                library_times.push(library_time);
-            }
         }
-        let plain = figures(&mut plain_times, work.calls());
-        let library = figures(&mut library_times, work.calls());
-        println!(
-            "{:<17} {:>9} | {:>8.1} {:>8.1} {:>8.1} | {:>8.1} {:>8.1} {:>8.1} | {:>10.2} {:>10.2}",
-            work.name,
-            work.calls(),
-            plain.fastest,
-            plain.median,
-            plain.slowest,
-            library.fastest,
-            library.median,
-            library.slowest,
-            library.fastest / plain.fastest,
-            library.median / plain.median
-        );
+        let counts = [PLAIN, TUNED, LIBRARY].map(|side| match calls {
+            0 => None,
+            calls => instructions(&works, at, side, calls),
+        });
+        print_line(&work.name, &figures, &counts);
     }
-    assert_eq!(plain_buffers.state, library_buffers.state);
-    assert!(plain_buffers.transcript == library_buffers.transcript, "the transcripts differ");
-    assert!(plain_buffers.answer == library_buffers.answer, "the answers differ");
+    println!("{wanted}");
 }

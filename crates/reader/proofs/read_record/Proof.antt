@@ -1,8 +1,11 @@
 -- The frame at the place decides the case; a whole frame is then held against the records before it. Assumes nothing.
 use mathlib.Core.Path.{sym, _∙_}
+use native.Mathlib.Omega.{arith}
+use native.Mathlib.Nat.{add-sub-cancel-left}
 use Rattle.wire.proofs.Picks.{picks}
 use Rattle.reader.specs.Steps.{heldRecord, recordOf}
 use Rattle.reader.proofs.Enums.{frame-end}
+use Rattle.reader.proofs.Frames.{whole-within}
 use borrow.Author.Needs.{needs}
 use Rattle.reader.proofs.read_record.Statement.{statement}
 use Rattle.reader.proofs.read_record.Tie as tie
@@ -37,11 +40,17 @@ returns-3 : tie.Need-returns-3
 unfolding recordOf
 returns-3 c = rw (sym (c .before .before .before .frame-at .ensures) ∙ c .enum-told .given .1)
 
-part-of-requires : tie.Need-part-of-requires
-part-of-requires c κs = search needs
+add-hold : tie.Need-add-hold
+add-hold c = let i = whole-within _ _ _ _ _ (sym (c .before .before .before .frame-at .ensures) ∙ c .before .f .given .1) in omega arith
 
-byte-at-requires : tie.Need-byte-at-requires
-byte-at-requires c κs = search needs
+sub-hold : tie.Need-sub-hold
+sub-hold c = search needs
+
+part-hold-start : tie.Need-part-hold-start
+part-hold-start c = search needs
+
+part-hold-end : tie.Need-part-hold-end
+part-hold-end c = let i = whole-within _ _ _ _ _ (sym (c .before .before .before .frame-at .ensures) ∙ c .before .f .given .1) in omega arith
 
 hold-requires : tie.Need-hold-requires
 hold-requires c κs = search needs
@@ -55,14 +64,18 @@ enum-known-held-2 c = search needs
 returns-4 : tie.Need-returns-4
 unfolding recordOf heldRecord
 returns-4 c =
-    let e = sym (c .before .before .before .before .before .before .before .before .before .frame-at .ensures) ∙ c .before .before .before .before .before .before .before .f .given .1 in
-    rw (e, ← c .before .before .before .before .before .part-of .ensures, ← c .before .before .before .hold .ensures, c .before .held .given .1, ← c .before .before .before .before .byte-at .ensures)
+    let e = sym (c .before .before .before .before .before .before .before .before .frame-at .ensures) ∙ c .before .before .before .before .before .before .f .given .1 in
+    let h = c .before .before .before .hold in
+    let g = rw (add-sub-cancel-left _ _) at h .ensures in
+    rw (e, ← g, c .before .held .given .1)
 
 returns-5 : tie.Need-returns-5
 unfolding recordOf heldRecord
 returns-5 c =
-    let e = sym (c .before .before .before .before .before .before .before .before .before .frame-at .ensures) ∙ c .before .before .before .before .before .before .before .f .given .1 in
-    rw (e, ← c .before .before .before .before .before .part-of .ensures, ← c .before .before .before .hold .ensures, c .before .held2 .given .1)
+    let e = sym (c .before .before .before .before .before .before .before .before .frame-at .ensures) ∙ c .before .before .before .before .before .before .f .given .1 in
+    let h = c .before .before .before .hold in
+    let g = rw (add-sub-cancel-left _ _) at h .ensures in
+    rw (e, ← g, c .before .held2 .given .1)
 
 pub read-record-spec : {M : Type 1} → statement M
 read-record-spec =
@@ -75,8 +88,10 @@ read-record-spec =
     returns
     returns-2
     returns-3
-    part-of-requires
-    byte-at-requires
+    add-hold
+    sub-hold
+    part-hold-start
+    part-hold-end
     hold-requires
     enum-known-held
     enum-known-held-2

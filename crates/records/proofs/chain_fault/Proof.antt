@@ -1,6 +1,10 @@
--- The tests are made in the definition's order, so the tests that led to each return pick its case. Assumes nothing.
+-- The tests are made in the definition's order, so the tests that led to each return pick its case. Two of them are the definition's one
+-- on the slot: a first chain's and a later one's. Assumes nothing.
+use mathlib.Core.Logic.{⊎-elim}
 use Rattle.wire.proofs.Picks.{picks}
 use Rattle.image.specs.Reading.{chainFault}
+use Rattle.records.specs.Records.{ownFault}
+use Rattle.records.proofs.Slots.{first-wrong, first-fine, later-wrong, later-fine}
 use borrow.Author.Needs.{needs}
 use Rattle.records.proofs.chain_fault.Statement.{statement}
 use Rattle.records.proofs.chain_fault.Tie as tie
@@ -46,35 +50,26 @@ returns-5 : tie.Need-returns-5
 unfolding chainFault
 returns-5 c = rw (← c .before .before .before .before .wide .ensures .0) (search picks depth 18)
 
-slot-wrong-requires : tie.Need-slot-wrong-requires
-slot-wrong-requires c κs = search needs
-
 returns-6 : tie.Need-returns-6
 unfolding chainFault
-returns-6 c = rw (← c .before .before .before .before .before .before .wide .ensures .0, ← c .before .slot-wrong .ensures) (search picks depth 18)
-
-add-get-u16le : tie.Need-add-get-u16le
-add-get-u16le c = search needs
-
-get-u16le-requires : tie.Need-get-u16le-requires
-get-u16le-requires c κs = search needs
-
-cast-own : tie.Need-cast-own
-cast-own c = search needs
-
-add-if7 : tie.Need-add-if7
-add-if7 c = search needs
-
-sub-if7 : tie.Need-sub-if7
-sub-if7 c = search needs
+returns-6 c =
+    let t = first-wrong _ (c .before .before .before .before .before .before .before .before .before .before .before .before .before .args .w .slot) _ (c .before .if6 .taken) (c .if7 .taken) in
+    rw (← c .before .before .before .before .before .before .before .wide .ensures .0) (search picks depth 18)
 
 returns-7 : tie.Need-returns-7
 unfolding chainFault
-returns-7 c = rw (← c .before .before .before .before .before .before .before .before .wide .ensures .0, ← c .before .before .before .slot-wrong .ensures, ← c .before .get-u16le .ensures) (search picks depth 18)
+returns-7 c =
+    let t = later-wrong _ _ _ (c .before .before .if6 .left) (c .if8 .taken) in
+    rw (← c .before .before .before .before .before .before .before .before .wide .ensures .0) (search picks depth 18)
+
+own-fault-requires : tie.Need-own-fault-requires
+own-fault-requires c κs = search needs
 
 returns-8 : tie.Need-returns-8
-unfolding chainFault
-returns-8 c = rw (← c .before .before .before .before .before .before .before .before .wide .ensures .0, ← c .before .before .before .slot-wrong .ensures, ← c .before .get-u16le .ensures) (search picks depth 18)
+unfolding chainFault ownFault
+returns-8 c =
+    let t = ⊎-elim (λ w. first-fine _ (c .before .before .before .before .before .before .before .before .before .before .before .before .before .args .w .slot) _ (w .0 .taken) (w .1 .left)) (λ w. later-fine _ _ _ (w .0 .left) (w .2 .left)) (c .before .if6 .came) in
+    rw (← c .before .before .before .before .before .before .before .wide .ensures .0) (search picks depth 18)
 
 pub chain-fault-spec : {M : Type 1} → statement M
 chain-fault-spec =
@@ -92,12 +87,7 @@ chain-fault-spec =
     returns-4
     shared-slice-read-slot
     returns-5
-    slot-wrong-requires
     returns-6
-    add-get-u16le
-    get-u16le-requires
-    cast-own
-    add-if7
-    sub-if7
     returns-7
+    own-fault-requires
     returns-8)

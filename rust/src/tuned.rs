@@ -1,0 +1,231 @@
+//! The tuned responder: the plain one with its reader made fast by hand, as a mark for the proved one's speed.
+//!
+//! The digest size is a const generic, so that strides and copies have a fixed length; measurement records are taken
+//! by a fixed stride with three compares each; what is kept of the image is a few numbers. A fault is left to the plain reader, which knows its number. Nothing is `unsafe`.
+
+#![forbid(unsafe_code)]
+
+use crate::plain::{self, outcome, Chain, Number, Provision, Slot, Summaries, Writer};
+use crate::plain::{HASH_SIZES, MAX_CHAIN, MAX_CHAINS, MAX_IMAGE, MAX_MEASUREMENTS, SIGNATURE_SIZES};
+
+/// Where the records behind the identity begin.
+const IDENTITY_END: usize = 7;
+const HEAD: usize = 3;
+
+/// An accepted image with digests of H bytes.
+struct Image<'a, const H: usize> {
+    bytes: &'a [u8],
+    mask: u8,
+    /// Where the body of each slot's record starts.
+    places: [u16; MAX_CHAINS],
+    /// Where the measurement records start, and where the last of them ends.
+    first: usize,
+    end: usize,
+}
+
+/// Reads an image whose identity was found good; `None` of a fault.
+#[inline(always)]
+fn read<const H: usize>(bytes: &[u8]) -> Option<Image<'_, H>> {
+    let mut at = IDENTITY_END;
+    let (mut mask, mut places, mut next_slot) = (0u8, [0; MAX_CHAINS], 0u8);
+    let mut count = 0;
+    while let Some(&[high, low, 2, slot]) = bytes[at..].first_chunk() {
+        let length = usize::from(u16::from_be_bytes([high, low]));
+        let place = at + HEAD;
+        let own = place.checked_add(1 + H).and_then(|own| bytes.get(own..own + 2))?;
+        let own = usize::from(u16::from_le_bytes([own[0], own[1]]));
+        if count == MAX_CHAINS || own + 1 + H != length || own < 5 + H || own > MAX_CHAIN {
+            return None;
+        }
+        if slot < next_slot || slot > 7 || (count == 0 && slot != 0) || bytes.len() - place < length {
+            return None;
+        }
+        places[usize::from(slot)] = place as u16;
+        mask |= 1 << slot;
+        next_slot = slot + 1;
+        count += 1;
+        at = place + length;
+    }
+    if count == 0 {
+        return None;
+    }
+
+    // Length, kind and index of a record are one number that rises; the index is at most 239.
+    let first = at;
+    let base = u32::from_be_bytes([0, 2 + H as u8, 3, 0]);
+    let mut last = base;
+    for record in bytes[at..].chunks_exact(5 + H).take(MAX_MEASUREMENTS) {
+        let head = u32::from_be_bytes([record[0], record[1], record[2], record[3]]);
+        if head <= last || head > base + 239 || record[4] > 3 {
+            break;
+        }
+        last = head;
+        at += 5 + H;
+    }
+
+    let end = at;
+    let rest = &bytes[end..];
+    if first == end {
+        return rest.is_empty().then_some(Image { bytes, mask, places, first, end });
+    }
+    let summary = rest.len() == HEAD + 2 * H && rest[..HEAD] == [0, 2 * H as u8, 4];
+    summary.then_some(Image { bytes, mask, places, first, end })
+}
+
+impl<'a, const H: usize> Image<'a, H> {
+    #[inline(always)]
+    fn at(&self, slot: u8) -> Chain<'a> {
+        let place = usize::from(self.places[usize::from(slot)]);
+        let (digest, rest) = self.bytes[place + 1..].split_at(H);
+        let length = usize::from(u16::from_le_bytes([rest[0], rest[1]]));
+        Chain { digest, bytes: &rest[..length] }
+    }
+}
+
+impl<'a, const H: usize> Provision<'a> for Image<'a, H> {
+    fn ct_exponent(&self) -> u8 {
+        self.bytes[4]
+    }
+
+    fn hash_number(&self) -> u8 {
+        self.bytes[5]
+    }
+
+    fn signature_number(&self) -> u8 {
+        self.bytes[6]
+    }
+
+    fn hash_size(&self) -> usize {
+        H
+    }
+
+    fn chain(&self, slot: Slot) -> Option<Chain<'a>> {
+        (self.mask >> slot.number() & 1 == 1).then(|| self.at(slot.number()))
+    }
+
+    fn chains(&self) -> impl Iterator<Item = (Slot, Chain<'a>)> {
+        (0..).map_while(Slot::new).filter_map(|slot| Some((slot, self.chain(slot)?)))
+    }
+
+    fn measurement_records(&self) -> &'a [u8] {
+        &self.bytes[self.first..self.end]
+    }
+
+    fn summaries(&self) -> Option<Summaries<'a>> {
+        let body = self.bytes.get(self.end + HEAD..)?;
+        let (tcb, all) = body.split_at(H);
+        Some(Summaries { tcb, all })
+    }
+
+    fn chain_count(&self) -> usize {
+        self.mask.count_ones() as usize
+    }
+
+    fn slot_mask(&self) -> u8 {
+        self.mask
+    }
+
+    #[inline(always)]
+    fn put_digests(&self, out: &mut Writer) {
+        for place in self.places.map(usize::from) {
+            if let Some(digest) = self.bytes[place..].get(1..1 + H).filter(|_| place > 0) {
+                out.put(digest);
+            }
+        }
+    }
+}
+
+/// The hash size of an image whose size, version and identity are in order.
+#[inline(always)]
+fn hash_size(image: &[u8]) -> Option<usize> {
+    let &[1, 0, 3, 1, ct_exponent, hash, signature, ..] = image else {
+        return None;
+    };
+    let good = image.len() <= MAX_IMAGE && ct_exponent <= 31 && usize::from(signature) < SIGNATURE_SIZES.len();
+    if good {
+        HASH_SIZES.get(usize::from(hash)).copied()
+    } else {
+        None
+    }
+}
+
+/// The number of a fault: the plain reader's.
+#[cold]
+#[inline(never)]
+fn fault(image: &[u8]) -> Number {
+    plain::Image::read(image).err().expect("a fault that the plain reader does not find")
+}
+
+/// Reads an image: 0 if it is accepted.
+#[inline(never)]
+pub fn read_image(image: &[u8]) -> u32 {
+    let good = match hash_size(image) {
+        Some(32) => read::<32>(image).is_some(),
+        Some(48) => read::<48>(image).is_some(),
+        Some(64) => read::<64>(image).is_some(),
+        _ => false,
+    };
+    outcome(if good { Ok(0) } else { Err(fault(image)) })
+}
+
+#[inline(always)]
+fn respond_sized<const H: usize>(
+    image: &[u8],
+    state: &mut [u32],
+    transcript: &mut [u8],
+    answer: &mut [u8],
+    request: &[u8],
+    nonce: &[u8],
+) -> Result<usize, Number> {
+    let read = read::<H>(image).ok_or_else(|| fault(image))?;
+    plain::try_respond(&read, state, transcript, answer, request, nonce)
+}
+
+/// Answers a request.
+#[inline(never)]
+pub fn respond(
+    image: &[u8],
+    state: &mut [u32],
+    transcript: &mut [u8],
+    answer: &mut [u8],
+    request: &[u8],
+    nonce: &[u8],
+) -> u32 {
+    outcome(match hash_size(image) {
+        Some(32) => respond_sized::<32>(image, state, transcript, answer, request, nonce),
+        Some(48) => respond_sized::<48>(image, state, transcript, answer, request, nonce),
+        Some(64) => respond_sized::<64>(image, state, transcript, answer, request, nonce),
+        _ => Err(fault(image)),
+    })
+}
+
+#[inline(always)]
+fn finish_sized<const H: usize>(
+    image: &[u8],
+    state: &mut [u32],
+    transcript: &mut [u8],
+    answer: &mut [u8],
+    chip_ok: bool,
+    signature: &[u8],
+) -> Result<usize, Number> {
+    let read = read::<H>(image).ok_or_else(|| fault(image))?;
+    plain::try_finish(&read, state, transcript, answer, chip_ok, signature)
+}
+
+/// Finishes the awaited answer with the chip's signature, or with its failure.
+#[inline(never)]
+pub fn finish(
+    image: &[u8],
+    state: &mut [u32],
+    transcript: &mut [u8],
+    answer: &mut [u8],
+    chip_ok: bool,
+    signature: &[u8],
+) -> u32 {
+    outcome(match hash_size(image) {
+        Some(32) => finish_sized::<32>(image, state, transcript, answer, chip_ok, signature),
+        Some(48) => finish_sized::<48>(image, state, transcript, answer, chip_ok, signature),
+        Some(64) => finish_sized::<64>(image, state, transcript, answer, chip_ok, signature),
+        _ => Err(fault(image)),
+    })
+}
