@@ -1,11 +1,10 @@
 -- A record behind the identity, held against those before it: the number of its fault, or what is seen past it.
 use mathlib.Core.List.{List}
-use Prim.Native.Nat.{ℕ, _+_, _-_}
-use lib.ListN.{length, getD}
+use Prim.Native.Nat.{ℕ, _+_}
+use lib.ListN.{getD}
 use lib.Dec.{eqb}
-use Rattle.wire.specs.Bytes.{leAt}
 use Rattle.wire.specs.Pick.{pick}
-use Rattle.image.specs.Limits.{chainKind, measurementKind, wrongOwnLength}
+use Rattle.image.specs.Limits.{chainKind, measurementKind}
 use Rattle.image.specs.Sizes.{digestSize}
 use Rattle.image.specs.Reading.{recordFault}
 use Rattle.image.specs.declared.Seen.{Seen}
@@ -24,10 +23,6 @@ seenAfter w kind key =
     (pick (eqb kind measurementKind)
     (record { size = w .size; chains = w .chains; slot = w .slot; measurements = w .measurements + 1; index = key; summaries = w .summaries })
     (record { size = w .size; chains = w .chains; slot = w .slot; measurements = w .measurements; index = w .index; summaries = w .summaries + 1 }))
-
--- "chain's own length field differs", its body otherwise in order
-unfoldable pub ownFault : ℕ → List ℕ → ℕ
-ownFault size body = pick (eqb (leAt 2 body (1 + size)) (length body - (1 + size))) 0 wrongOwnLength
 
 unfoldable pub heldOf : Seen → ℕ → List ℕ → Held
 heldOf w kind body =

@@ -20,10 +20,9 @@ use image::limits::WRONG_KIND;
 use image::limits::WRONG_LENGTH;
 use image::limits::WRONG_OWN_LENGTH;
 ghost use mathlib.Core.Path.{_≡_};
-ghost use Prim.Native.Nat.{_+_, _≤_};
-ghost use lib.ListN.{length, getD};
+ghost use lib.ListN.{getD};
 ghost use Rattle.image.specs.Reading.{identityFault, chainFault, measurementFault, summaryFault, recordFault, endFault};
-ghost use Rattle.records.specs.Records.{seenFirst, seenAfter, ownFault, heldOf};
+ghost use Rattle.records.specs.Records.{seenFirst, seenAfter, heldOf};
 
 // A record held against those before it: what is seen past it, or the number of its fault.
 pub enum Held {
@@ -64,18 +63,6 @@ pub fn identity_fault(body: &[u8]) -> u8
     0
 }
 
-// A chain's own length, which stands behind the slot and the digest.
-fn own_fault(body: &[u8], size: usize) -> u8
-    requires { ⌜ 1 + size ≤ length (now body) ⌝ }
-    ensures { λ r. ⌜ r ≡ ownFault size (now (body .entry)) ⌝ }
-{
-    let own = wire::get_u16le(body, 1 + size) as usize;
-    if own != body.len() - (1 + size) {
-        return WRONG_OWN_LENGTH;
-    }
-    0
-}
-
 fn chain_fault(w: Seen, body: &[u8]) -> u8
     ensures { λ r. ⌜ r ≡ chainFault w (now (body .entry)) ⌝ }
 {
@@ -103,7 +90,11 @@ fn chain_fault(w: Seen, body: &[u8]) -> u8
     } else if slot <= w.slot {
         return WRONG_FIELD;
     }
-    own_fault(body, size)
+    let own = wire::get_u16le(body, 1 + size) as usize;
+    if own != body.len() - (1 + size) {
+        return WRONG_OWN_LENGTH;
+    }
+    0
 }
 
 fn measurement_fault(w: Seen, body: &[u8]) -> u8
