@@ -1,5 +1,5 @@
 # make demo: a panel questions boxes with real signatures. make test: the gate, what .ci/run calls. make fuzz: the sanitizers.
-# make bench: the library's times beside plain Rust's.
+# make bench: the library's times and instructions beside plain and tuned Rust's.
 CARGO := cargo
 RUST := --offline --release --manifest-path rust/Cargo.toml
 

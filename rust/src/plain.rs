@@ -31,6 +31,10 @@ pub(crate) const MAX_CHAIN: usize = 4_096;
 const MAX_PORTION: usize = 1_024;
 pub(crate) const MAX_CHAINS: usize = 8;
 pub(crate) const MAX_MEASUREMENTS: usize = 32;
+pub(crate) const MAX_SLOT: u8 = 7;
+pub(crate) const MAX_INDEX: u8 = 239;
+pub(crate) const MAX_TYPE: u8 = 3;
+pub(crate) const MAX_EXPONENT: u8 = 31;
 const NONCE: usize = 32;
 
 pub(crate) const HASH_SIZES: [usize; 6] = [32, 48, 64, 32, 48, 64];
@@ -64,7 +68,7 @@ pub struct Slot(u8);
 
 impl Slot {
     pub fn new(number: u8) -> Option<Slot> {
-        (number < 8).then_some(Slot(number))
+        (number <= MAX_SLOT).then_some(Slot(number))
     }
 
     pub fn number(self) -> u8 {
@@ -78,7 +82,7 @@ pub struct Index(u8);
 
 impl Index {
     pub fn new(number: u8) -> Option<Index> {
-        (1..=239).contains(&number).then_some(Index(number))
+        (1..=MAX_INDEX).contains(&number).then_some(Index(number))
     }
 
     pub fn number(self) -> u8 {
@@ -158,7 +162,7 @@ impl<'a> Image<'a> {
         let &[ct_exponent, hash_number, signature_number] = body else {
             return Err(Number::BodyLength);
         };
-        if ct_exponent > 31
+        if ct_exponent > MAX_EXPONENT
             || usize::from(hash_number) >= HASH_SIZES.len()
             || usize::from(signature_number) >= SIGNATURE_SIZES.len()
         {
@@ -206,7 +210,7 @@ impl<'a> Image<'a> {
                 return Err(Number::BodyLength);
             }
             let index = Index::new(body[0]).ok_or(Number::FieldRange)?;
-            if body[1] > 3 || index.number() <= last_index {
+            if body[1] > MAX_TYPE || index.number() <= last_index {
                 return Err(Number::FieldRange);
             }
             measurement_count += 1;
@@ -234,6 +238,11 @@ impl<'a> Image<'a> {
 
         Ok(Image { ct_exponent, hash_number, signature_number, chains, measurements, summaries })
     }
+
+    /// The filled slots and their chains, by rising slot.
+    pub fn chains(&self) -> impl Iterator<Item = (Slot, Chain<'a>)> + '_ {
+        (0..).zip(&self.chains).filter_map(|(number, chain)| chain.map(|chain| (Slot(number), chain)))
+    }
 }
 
 /// What an answer needs of an accepted image, however it was read: [`Image`] keeps slices, the tuned reader places.
@@ -244,8 +253,10 @@ pub trait Provision<'a> {
     /// H.
     fn hash_size(&self) -> usize;
     fn chain(&self, slot: Slot) -> Option<Chain<'a>>;
-    /// The filled slots and their chains, by rising slot.
-    fn chains(&self) -> impl Iterator<Item = (Slot, Chain<'a>)>;
+    fn chain_count(&self) -> usize;
+    fn slot_mask(&self) -> u8;
+    /// Writes the digests of all chains, by rising slot.
+    fn put_digests(&self, out: &mut Writer);
     /// The kind 3 records, heads included.
     fn measurement_records(&self) -> &'a [u8];
     fn summaries(&self) -> Option<Summaries<'a>>;
@@ -269,21 +280,6 @@ pub trait Provision<'a> {
 
     fn measurement(&self, index: Index) -> Option<Measurement<'a>> {
         self.measurements().find(|measurement| measurement.index == index)
-    }
-
-    fn chain_count(&self) -> usize {
-        self.chains().count()
-    }
-
-    fn slot_mask(&self) -> u8 {
-        self.chains().fold(0, |mask, (slot, _)| mask | 1 << slot.number())
-    }
-
-    /// Writes the digests of all chains, by rising slot.
-    fn put_digests(&self, out: &mut Writer) {
-        for (_, chain) in self.chains() {
-            out.put(chain.digest);
-        }
     }
 
     /// A slot given by a whole byte, with its chain, if it is filled.
@@ -314,8 +310,18 @@ impl<'a> Provision<'a> for Image<'a> {
         self.chains[usize::from(slot.number())]
     }
 
-    fn chains(&self) -> impl Iterator<Item = (Slot, Chain<'a>)> {
-        (0..).zip(&self.chains).filter_map(|(number, chain)| chain.map(|chain| (Slot(number), chain)))
+    fn chain_count(&self) -> usize {
+        self.chains().count()
+    }
+
+    fn slot_mask(&self) -> u8 {
+        self.chains().fold(0, |mask, (slot, _)| mask | 1 << slot.number())
+    }
+
+    fn put_digests(&self, out: &mut Writer) {
+        for (_, chain) in self.chains() {
+            out.put(chain.digest);
+        }
     }
 
     fn measurement_records(&self) -> &'a [u8] {

@@ -1,15 +1,18 @@
 //! The tuned responder: the plain one with its reader made fast by hand, as a mark for the proved one's speed.
 //!
 //! The digest size is a const generic, so that strides and copies have a fixed length; measurement records are taken
-//! by a fixed stride with three compares each; what is kept of the image is a few numbers. A fault is left to the plain reader, which knows its number. Nothing is `unsafe`.
+//! by a fixed stride with three compares each; what is kept of the image is a few numbers. A fault is left to the
+//! plain reader, which knows its number. Nothing is `unsafe`.
 
 #![forbid(unsafe_code)]
 
 use crate::plain::{self, outcome, Chain, Number, Provision, Slot, Summaries, Writer};
-use crate::plain::{HASH_SIZES, MAX_CHAIN, MAX_CHAINS, MAX_IMAGE, MAX_MEASUREMENTS, SIGNATURE_SIZES};
+use crate::plain::{HASH_SIZES, MAX_CHAIN, MAX_CHAINS, MAX_EXPONENT, MAX_IMAGE, MAX_INDEX, MAX_MEASUREMENTS};
+use crate::plain::{MAX_SLOT, MAX_TYPE, SIGNATURE_SIZES};
 
 /// Where the records behind the identity begin.
 const IDENTITY_END: usize = 7;
+/// The bytes of a record's head: length and kind.
 const HEAD: usize = 3;
 
 /// An accepted image with digests of H bytes.
@@ -28,25 +31,25 @@ struct Image<'a, const H: usize> {
 fn read<const H: usize>(bytes: &[u8]) -> Option<Image<'_, H>> {
     let mut at = IDENTITY_END;
     let (mut mask, mut places, mut next_slot) = (0u8, [0; MAX_CHAINS], 0u8);
-    let mut count = 0;
     while let Some(&[high, low, 2, slot]) = bytes[at..].first_chunk() {
         let length = usize::from(u16::from_be_bytes([high, low]));
         let place = at + HEAD;
-        let own = place.checked_add(1 + H).and_then(|own| bytes.get(own..own + 2))?;
+        let own = bytes.get(place + 1 + H..place + 3 + H)?;
         let own = usize::from(u16::from_le_bytes([own[0], own[1]]));
-        if count == MAX_CHAINS || own + 1 + H != length || own < 5 + H || own > MAX_CHAIN {
+        if own + 1 + H != length || own < 5 + H || own > MAX_CHAIN || bytes.len() - place < length {
             return None;
         }
-        if slot < next_slot || slot > 7 || (count == 0 && slot != 0) || bytes.len() - place < length {
+        // Rising slots of at most 7 are at most eight.
+        if slot < next_slot || slot > MAX_SLOT {
             return None;
         }
         places[usize::from(slot)] = place as u16;
         mask |= 1 << slot;
         next_slot = slot + 1;
-        count += 1;
         at = place + length;
     }
-    if count == 0 {
+    // Slots rise, so slot 0 is the first or is missing.
+    if mask & 1 == 0 {
         return None;
     }
 
@@ -56,7 +59,7 @@ fn read<const H: usize>(bytes: &[u8]) -> Option<Image<'_, H>> {
     let mut last = base;
     for record in bytes[at..].chunks_exact(5 + H).take(MAX_MEASUREMENTS) {
         let head = u32::from_be_bytes([record[0], record[1], record[2], record[3]]);
-        if head <= last || head > base + 239 || record[4] > 3 {
+        if head <= last || head > base + u32::from(MAX_INDEX) || record[4] > MAX_TYPE {
             break;
         }
         last = head;
@@ -74,7 +77,7 @@ fn read<const H: usize>(bytes: &[u8]) -> Option<Image<'_, H>> {
 
 impl<'a, const H: usize> Image<'a, H> {
     #[inline(always)]
-    fn at(&self, slot: u8) -> Chain<'a> {
+    fn chain_at(&self, slot: u8) -> Chain<'a> {
         let place = usize::from(self.places[usize::from(slot)]);
         let (digest, rest) = self.bytes[place + 1..].split_at(H);
         let length = usize::from(u16::from_le_bytes([rest[0], rest[1]]));
@@ -100,11 +103,7 @@ impl<'a, const H: usize> Provision<'a> for Image<'a, H> {
     }
 
     fn chain(&self, slot: Slot) -> Option<Chain<'a>> {
-        (self.mask >> slot.number() & 1 == 1).then(|| self.at(slot.number()))
-    }
-
-    fn chains(&self) -> impl Iterator<Item = (Slot, Chain<'a>)> {
-        (0..).map_while(Slot::new).filter_map(|slot| Some((slot, self.chain(slot)?)))
+        (self.mask >> slot.number() & 1 == 1).then(|| self.chain_at(slot.number()))
     }
 
     fn measurement_records(&self) -> &'a [u8] {
@@ -128,8 +127,8 @@ impl<'a, const H: usize> Provision<'a> for Image<'a, H> {
     #[inline(always)]
     fn put_digests(&self, out: &mut Writer) {
         for place in self.places.map(usize::from) {
-            if let Some(digest) = self.bytes[place..].get(1..1 + H).filter(|_| place > 0) {
-                out.put(digest);
+            if place > 0 {
+                out.put(&self.bytes[place + 1..place + 1 + H]);
             }
         }
     }
@@ -141,7 +140,8 @@ fn hash_size(image: &[u8]) -> Option<usize> {
     let &[1, 0, 3, 1, ct_exponent, hash, signature, ..] = image else {
         return None;
     };
-    let good = image.len() <= MAX_IMAGE && ct_exponent <= 31 && usize::from(signature) < SIGNATURE_SIZES.len();
+    let good =
+        image.len() <= MAX_IMAGE && ct_exponent <= MAX_EXPONENT && usize::from(signature) < SIGNATURE_SIZES.len();
     if good {
         HASH_SIZES.get(usize::from(hash)).copied()
     } else {

@@ -9,7 +9,7 @@
 use std::fmt::Write as _;
 use std::time::Instant;
 
-use spdm_check::{ffi, plain};
+use spdm_check::{ffi, plain, tuned};
 
 const DEFAULT_SEED: u64 = 0x5350_444D_0001;
 const DEFAULT_CALLS: u64 = 200_000;
@@ -1169,6 +1169,8 @@ fn random_images() {
             "DIFFERENCE at seed {seed}, image {made}: plain gives {plain:#x}, the library {library:#x}: {}",
             hex(&image)
         );
+        let tuned = tuned::read_image(&image);
+        assert!(tuned == plain, "seed {seed}, image {made}: plain gives {plain:#x}, tuned {tuned:#x}: {}", hex(&image));
         unchanged("image", &lent, &image).unwrap_or_else(|what| panic!("seed {seed}, image {made}: {what}"));
         assert!(made % 16 != 0 || plain == 0, "seed {seed}, image {made}: a valid image is refused: {}", hex(&image));
         numbers[(plain >> 16) as usize] += 1;

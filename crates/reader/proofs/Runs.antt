@@ -1,12 +1,13 @@
 -- The run over measurement records. Length, kind and index of a record are one number, its head; between the head of the record before it
--- and that of the highest index there are only heads of good measurements, so the plain step accepts what the run accepts. Assumes nothing.
+-- and that of the highest index there are only heads of measurements of the right length with a rising index. Type and room are tested
+-- beside it, so the plain step accepts what the run accepts. Assumes nothing.
 use mathlib.Core.Path.{_≡_, refl, sym, ap, _∙_, subst}
 use mathlib.Core.Bool.{false}
 use mathlib.Core.List.{List}
 use Prim.Native.Nat.{ℕ, zero, suc, _+_, _-_, _*_, _≤_, _<_}
 use native.Mathlib.Omega.{arith}
 use native.Mathlib.Nat.{suc-mul}
-use lib.ListN.{length, getD, take, drop}
+use lib.ListN.{length, getD, drop}
 use lib.Seq.{getD-drop, getD-take}
 use lib.Dec.{eqb}
 use borrow.Author.Tests.{eq-eqb, ne-eqb}
@@ -72,16 +73,17 @@ head-good b v at x g m room inside low high type =
     let f = g .first in
     let len : beAt 2 b at ≡ 2 + v .size = omega arith in
     let kind : getD b (at + 2) 0 ≡ measurementKind = omega arith in
-    let index : getD b (at + 3) 0 ≡ x - headOf (v .size) = omega arith in
+    let index : getD b (at + headLength) 0 ≡ x - headOf (v .size) = omega arith in
     let body = part b (at + headLength) (2 + v .size) in
-    let i₀ : getD body 0 0 ≡ getD b (at + 3) 0 = body-byte b (at + headLength) (2 + v .size) 0 (at + 3) (omega arith) (omega arith) in
+    let i₀ : getD body 0 0 ≡ getD b (at + headLength) 0 = body-byte b (at + headLength) (2 + v .size) 0 (at + headLength) (omega arith) (omega arith) in
     let i₁ : getD body 1 0 ≡ getD b (at + headLength + 1) 0 = body-byte b (at + headLength) (2 + v .size) 1 (at + headLength + 1) (omega arith) (omega arith) in
     let l : length body ≡ 2 + v .size = part-length b (at + headLength) (2 + v .size) (omega arith) in
     let z = measurement-good v body m room l (omega arith) (omega arith) (omega arith) in
     let w = rw (kind, len) at (frame-whole b at (omega arith)) in
     ap (recordOf b v) (sym w) ∙ step-good b v (at + headLength) (2 + v .size) z ∙ ap (λ (n : ℕ). rec.Good measurementKind (at + headLength) (2 + v .size) (measured v (v .measurements + 1) n)) (i₀ ∙ index)
 
--- A turn of the run. The loop has no use for the rest of what was seen before it, so the run is told of whatever that was.
+-- A turn of the run. Of what was seen before it the loop keeps the digest size, the count and the last head only, so the run is claimed
+-- whatever else was seen.
 pub record Turn (b : List ℕ) (from size stride base far end n₀ last₀ at n last : ℕ) : Type 0 where
   pub run : (w : Seen) → Measuring w → w .size ≡ size → w .measurements ≡ n₀ → base + w .index ≡ last₀ → Run b from w at (measured w n (last - base))
   pub low : base ≤ last
@@ -94,6 +96,7 @@ pub record Turn (b : List ℕ) (from size stride base far end n₀ last₀ at n 
   pub within : end ≤ length b
   pub near : end ≤ far
 
+-- before the first turn
 pub turn-first : (b : List ℕ) (from size stride base far end n last : ℕ) → base ≤ last → last ≤ base + 255 → n ≤ measurementsLimit → (k : ℕ) → k ≡ measurementsLimit - n
     → from + k * stride ≡ far → from ≤ length b → stride ≡ headLength + (2 + size) → base ≡ headOf size → end ≤ length b → end ≤ far → Turn b from size stride base far end n last from n last
 turn-first b from size stride base far end n last low high few k q left inside step based within near =
@@ -118,9 +121,10 @@ module _ {b : List ℕ} {from size stride base far end n₀ last₀ at n last : 
   some-left zero l = let s = t .step in let e = t .near in absurd (omega arith)
   some-left (suc k) l = omega arith
 
-  pub turn-room : n < measurementsLimit
+  turn-room : n < measurementsLimit
   turn-room = let h = some-left (measurementsLimit - n) (t .left) in omega arith
 
+  -- past one more record there is room for one fewer
   less-left : at + stride + (measurementsLimit - (n + 1)) * stride ≡ far
   less-left =
       let h = turn-room in
@@ -130,6 +134,7 @@ module _ {b : List ℕ} {from size stride base far end n₀ last₀ at n last : 
       let m = suc-mul k stride in
       omega arith
 
+  -- a turn takes one more good record
   pub turn-next : (x : ℕ) → Head b at x → last < x → x ≤ base + indexLimit → getD b (at + headLength + 1) 0 ≤ typeLimit
       → Turn b from size stride base far end n₀ last₀ (at + stride) (n + 1) x
   turn-next x g low high type =

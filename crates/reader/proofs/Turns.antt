@@ -1,5 +1,5 @@
--- The walk's turns. At each turn the image reads as what was read so far with the records from here on; a good record moves that on by one,
--- and what the walk carries is read off the contents so far. Assumes nothing.
+-- The walk's turns. At each turn the image reads as what was read so far with the records from here on; a good record moves that on by one, a run
+-- by as many as it has, and what the walk carries is read off the contents so far. Assumes nothing.
 use mathlib.Core.Path.{_≡_, refl, sym, ap, _∙_, subst}
 use mathlib.Core.List.{List, [], _∷_, _++_, append-nil}
 use Prim.Native.Nat.{ℕ, suc, _+_, _≤_, _<_}
@@ -75,6 +75,7 @@ taken b w (fr.Whole k s l) kind start len next e =
     (λ t g. let z : _≡_ {A = ℕ} 0 1 = cc in absurd (omega arith))
     e
 
+-- places are alike where both fields are
 both : {l l′ : List ℕ} {n n′ : ℕ} → l ≡ l′ → n ≡ n′ → _≡_ {A = Places} (record { bodies = l; first = n }) (record { bodies = l′; first = n′ })
 both p q = cc
 
@@ -125,6 +126,7 @@ module _ (c : Contents) (kind : ℕ) (body : List ℕ) (start : ℕ) (s : Sound 
   unmeasured : kind ≡ chainKind → c .measurements ≡ []
   unmeasured k = empty (c .measurements) (omega (arith, chain-fine (seen c) kind body f k .first))
 
+  -- one more record leaves the chains' places as bodiesAfter says
   bodies-extended : placed (extended c kind body) .bodies ≡ bodiesAfter (placed c .bodies) kind (getD body 0 0) start
   unfolding extended identityBytes
   bodies-extended =
@@ -134,6 +136,7 @@ module _ (c : Contents) (kind : ℕ) (body : List ℕ) (start : ℕ) (s : Sound 
       bodies-chain c (chainIn (digestSize (c .hash)) body) start m (empty (c .summaries) (omega (arith, s .behind, ap length m))) e)
       (λ t. pick-case (λ (d : Contents). placed d .bodies ≡ placed c .bodies) _ _ _ (λ u. refl) (λ u. refl))
 
+  -- and the first measurement's place as firstAfter says
   first-extended : placed (extended c kind body) .first ≡ firstAfter (placed c .first) (seen c) kind start
   unfolding extended identityBytes
   first-extended =
@@ -227,6 +230,7 @@ module _ {b : List ℕ} {c₀ : Contents} {at : ℕ} {w : Seen} {p : Places} (r 
         let h = chain-fine w kind (part b start len) (good .fine) k .slot in
         omega arith
 
+    -- behind a good measurement more may follow
     pub good-measuring : kind ≡ measurementKind → (Measuring next) × (0 < next .measurements)
     good-measuring k =
         let f = measurement-fine w kind (part b start len) (good .fine) k in
@@ -279,11 +283,10 @@ reached-run {b} {c₀} {p = p} r m (more {at} {v} run start len next e) =
     let i = reached-run r m run in
     let q = i .reached in
     let n = reached-next q measurementKind start len next e in
-    let k = ap (λ (u : Seen). u .measurements) (good q measurementKind start len next e .seeing ∙ measurement-seen v measurementKind _ refl) in
     let g = good-within q measurementKind start len next e in
     let o = i .onward in
     record {
       reached = subst (Reached b c₀ (start + len) next) (places-kept p v (next .slot) start (i .measuring)) n;
       onward = omega arith;
-      measuring = omega arith;
+      measuring = good-measuring q measurementKind start len next e refl .1;
     }

@@ -4,7 +4,7 @@ use mathlib.Core.List.{List}
 use Prim.Native.Nat.{ℕ, _+_, _*_, _≤_, _<_}
 use lib.ListN.{getD}
 use Rattle.wire.specs.Bytes.{beAt}
-use Rattle.image.specs.Limits.{measurementKind, measurementsLimit}
+use Rattle.image.specs.Limits.{headLength, measurementKind, measurementsLimit}
 use Rattle.image.specs.declared.Seen.{Seen}
 use Rattle.reader.specs.declared.Record.the-variants as rec
 use Rattle.reader.specs.Steps.{frameAt, recordOf}
@@ -13,7 +13,7 @@ use Rattle.reader.specs.Steps.{frameAt, recordOf}
 abbrev pub measured : Seen → ℕ → ℕ → Seen
 measured w n index = record { size = w .size; chains = w .chains; slot = w .slot; measurements = n; index = index; summaries = w .summaries }
 
--- Good measurement records from a place on, w seen before them: behind the last is the place `at`, and v is seen.
+-- Good measurement records from a place on, w seen before them: the place behind the last, and what is seen there.
 pub data Run (b : List ℕ) (from : ℕ) (w : Seen) : ℕ → Seen → Type 0 where
   none : Run b from w from w
   more : {at : ℕ} {v : Seen} → Run b from w at v → (start len : ℕ) (next : Seen) → recordOf b v (frameAt b at) ≡ rec.Good measurementKind start len next → Run b from w (start + len) next
@@ -26,6 +26,6 @@ pub record Measuring (w : Seen) : Type 0 where
 
 -- length, kind and the body's first byte as one number
 pub record Head (b : List ℕ) (at x : ℕ) : Type 0 where
-  pub value : x ≡ beAt 2 b at * 65536 + getD b (at + 2) 0 * 256 + getD b (at + 3) 0
+  pub value : x ≡ beAt 2 b at * 65536 + getD b (at + 2) 0 * 256 + getD b (at + headLength) 0
   pub kind : getD b (at + 2) 0 < 256
-  pub first : getD b (at + 3) 0 < 256
+  pub first : getD b (at + headLength) 0 < 256

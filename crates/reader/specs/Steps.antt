@@ -45,7 +45,7 @@ recordOf b w (frame.Whole kind start len) = heldRecord kind start len (heldOf w 
 abbrev pub identityAt : ℕ → ℕ → ℕ → Contents
 identityAt exponent hash signature = record { exponent = exponent; hash = hash; signature = signature; chains = []; measurements = []; summaries = [] }
 
--- where the records stand past a good one: each chain by its slot, and the first measurement behind those that w has seen
+-- where the records stand past a good one: a chain by its slot, and a measurement if w has seen none before it
 abbrev pub bodiesAfter : List ℕ → ℕ → ℕ → ℕ → List ℕ
 bodiesAfter bodies kind slot start = pick (eqb kind chainKind) (set bodies slot start) bodies
 

@@ -20,9 +20,9 @@ use image::limits::WRONG_VERSION;
 use records::Held;
 ghost use mathlib.Core.Path.{_≡_};
 ghost use mathlib.Core.List.{[], _∷_};
-ghost use Prim.Native.Nat.{_+_, _≤_};
+ghost use Prim.Native.Nat.{_+_, _<_, _≤_};
 ghost use lib.ListN.{length};
-ghost use Rattle.image.specs.Limits.{imageLimit, slotLimit, chainKind, identityEnd};
+ghost use Rattle.image.specs.Limits.{imageLimit, headLength, slotLimit, chainKind, identityEnd};
 ghost use Rattle.image.specs.Reading.{reading, readAll, readOn, identityFault};
 ghost use Rattle.image.specs.Index.{refusedBy, acceptedAt, answerOf};
 ghost use Rattle.reader.specs.Steps.{framesAt, frameAt, recordOf, identityAt, bodiesAfter, firstAfter, indexFrom};
@@ -136,7 +136,8 @@ fn accepted(exponent: u8, hash: u8, signature: u8, w: Seen, p: Places) -> Image
     }
 }
 
-// In place: an array that is made anew for each record is copied for each, and the copy waits for the entry written before it.
+// Keeps where a chain's body starts. In place: an array that is made anew for each record is copied for each, and the copy waits for
+// the entry written before it.
 fn place_chain(bodies: &mut [u16; 8], kind: u8, slot: u8, start: usize)
     requires { ⌜ (start ≤ imageLimit) × (kind ≡ chainKind → slot ≤ slotLimit) ⌝ }
     ensures { λ _. ⌜ now (bodies .exit) ≡ bodiesAfter (now (bodies .entry)) kind slot start ⌝ }
@@ -147,6 +148,7 @@ fn place_chain(bodies: &mut [u16; 8], kind: u8, slot: u8, start: usize)
     }
 }
 
+// Where the first measurement's body starts: a later one does not move it.
 fn first_after(first: u16, w: Seen, kind: u8, start: usize) -> u16
     requires { ⌜ start ≤ imageLimit ⌝ }
     ensures { λ r. ⌜ r ≡ firstAfter first w kind start ⌝ }
@@ -168,13 +170,13 @@ struct Run {
 
 // Length, kind and the body's first byte of the record at a place, as one number.
 fn head_at(s: &[u8], at: usize) -> usize
-    requires { ⌜ at + 4 ≤ length (now s) ⌝ }
+    requires { ⌜ at + headLength < length (now s) ⌝ }
     ensures { λ r. ⌜ Head (now (s .entry)) at r ⌝ }
 {
     wire::wide(s[at]) * 16777216
         + wire::wide(s[at + 1]) * 65536
         + wire::wide(s[at + 2]) * 256
-        + wire::wide(s[at + 3])
+        + wire::wide(s[at + HEAD_LENGTH])
 }
 
 fn least(a: usize, b: usize) -> usize
@@ -191,6 +193,7 @@ fn run_from(s: &[u8], from: usize, w: Seen) -> Run
 {
     let size = wire::wide(w.size);
     let stride = HEAD_LENGTH + (2 + size);
+    // The head of such a record, its index left off.
     let base = (2 + size) * 65536 + wire::wide(MEASUREMENT_KIND) * 256;
     let room = wire::wide(MEASUREMENTS_LIMIT - w.measurements) * stride;
     let end = least(s.len(), from + room);
@@ -219,7 +222,7 @@ fn run_from(s: &[u8], from: usize, w: Seen) -> Run
     }
 }
 
-// The records behind the identity, one after the other, each looked at once; measurements behind the first by runs.
+// The records behind the identity, one after the other; measurements behind the first by runs.
 fn walk(s: &[u8], exponent: u8, hash: u8, signature: u8) -> Image
     requires { ⌜ (length (now s) ≤ imageLimit) × (identityFault (exponent ∷ hash ∷ signature ∷ []) ≡ 0) ⌝ }
     ensures { λ r. ⌜ r ≡ answerOf (readOn (identityAt exponent hash signature) (framesAt (now (s .entry)) identityEnd)) ⌝ }

@@ -83,6 +83,7 @@ fn chain_fault(w: Seen, body: &[u8]) -> u8
     if SLOT_LIMIT < slot {
         return WRONG_FIELD;
     }
+    // The first slot is 0, a later one is above the last.
     if w.chains == 0 {
         if 0 < slot {
             return WRONG_FIELD;

@@ -1,10 +1,11 @@
 //! Times the proved responder, through its C interface, against the plain one and the tuned one.
 //!
-//! All three get the same images, requests and buffers' sizes, and each its own buffers, which are made once and not
-//! cleared between calls. Repeats are interleaved, each time in another order, and the fastest and the median of each
-//! are shown; the spread is the slowest over the fastest, the worst of the three. Times are the thread's own processor
-//! time, so that other work on the machine counts less. `SPDM_REPEATS` says how many repeats, `SPDM_DIGESTS` how many
-//! GET_DIGESTS each has.
+//! All three get the same images, requests and buffer sizes, and each its own buffers, which are made once and not
+//! cleared between calls. A repeat is cut into slices, the sides in turn in each, in another order from slice to slice, so
+//! that a machine that slows down slows all three. The fastest slice and the median of the repeats are shown; the spread
+//! is the slowest repeat over the median one, the worst of the three. Times are the thread's own processor time, so that
+//! other work on the machine counts less. `SPDM_REPEATS` says how many repeats, `SPDM_DIGESTS` how many GET_DIGESTS each
+//! has.
 //!
 //! Instructions a call are counted by valgrind's callgrind, which runs this program again; without valgrind that
 //! column is empty. `SPDM_COUNTED` says how many calls are counted (0: none).
@@ -45,6 +46,9 @@ side!(Plain, plain);
 side!(Tuned, tuned);
 side!(Library, ffi);
 
+/// A repeat is cut into this many slices, the sides in turn in each.
+const SLICES: usize = 20;
+
 const SIDES: [&str; 3] = ["plain", "tuned", "library"];
 const PLAIN: usize = 0;
 const TUNED: usize = 1;
@@ -68,32 +72,36 @@ fn processor_time() -> Duration {
     Duration::new(time.seconds as u64, time.nanoseconds as u32)
 }
 
+/// A side's buffers. They begin a page, so that they lie alike for every side: a copy whose two places are the same in
+/// their pages is slower.
+#[repr(C, align(4096))]
 #[derive(PartialEq)]
 struct Buffers {
-    state: [u32; 8],
-    transcript: Vec<u8>,
-    answer: Vec<u8>,
+    transcript: [u8; plain::TRANSCRIPT],
+    answer: [u8; plain::MAX_MESSAGE],
+    state: [u32; plain::STATE_WORDS],
 }
 
 impl Buffers {
-    fn new() -> Buffers {
-        Buffers { state: [0; 8], transcript: vec![0; 16_384], answer: vec![0; 4_608] }
+    fn new() -> Box<Buffers> {
+        let (transcript, answer) = ([0; plain::TRANSCRIPT], [0; plain::MAX_MESSAGE]);
+        Box::new(Buffers { transcript, answer, state: [0; plain::STATE_WORDS] })
     }
 }
 
 /// What a box is provisioned with; SHA-256 and P-256 in each.
-#[derive(Clone, Copy, PartialEq)]
-struct Provision {
+#[derive(Clone, Copy)]
+struct Provisioning {
     chains: usize,
     chain: usize,
     measurements: usize,
 }
 
-const FULL: Provision = Provision { chains: 8, chain: 4_096, measurements: 32 };
+const FULL: Provisioning = Provisioning { chains: 8, chain: 4_096, measurements: 32 };
 const HASH: usize = 32;
 const SIGNATURE: usize = 64;
 
-impl Provision {
+impl Provisioning {
     fn image(self) -> Vec<u8> {
         let mut image = vec![1];
         let mut record = |kind: u8, body: &[u8]| {
@@ -131,8 +139,9 @@ enum Step {
 
 struct Work {
     name: String,
-    on: Provision,
+    on: Provisioning,
     steps: Vec<Step>,
+    /// Times through the steps, of a slice.
     times: usize,
 }
 
@@ -231,9 +240,9 @@ fn get_digests() -> Vec<Step> {
     vec![Step::State(negotiated(4_608)), Step::Respond(vec![0x12, 0x81, 0, 0])]
 }
 
-fn work(name: &str, on: Provision, steps: Vec<Step>, calls: usize) -> Work {
+fn work(name: &str, on: Provisioning, steps: Vec<Step>, calls: usize) -> Work {
     let mut work = Work { name: name.to_owned(), on, steps, times: 0 };
-    work.times = (calls / work.calls_each()).max(1);
+    work.times = (calls / SLICES / work.calls_each()).max(1);
     work
 }
 
@@ -274,51 +283,69 @@ fn works(digests: usize) -> Vec<Work> {
         (8, 4_096, 0),
     ] {
         let name = format!("{chains} of {chain}, {measurements}");
-        all.push(work(&name, Provision { chains, chain, measurements }, get_digests(), fifth));
+        all.push(work(&name, Provisioning { chains, chain, measurements }, get_digests(), fifth));
     }
     all
 }
 
-#[derive(Clone, Copy, Default)]
+/// Nanoseconds a call: of the fastest slice, and of the repeats.
+#[derive(Clone, Copy)]
 struct Figures {
     fastest: f64,
     median: f64,
     slowest: f64,
 }
 
-/// Nanoseconds a call.
-fn figures(times: &mut [Duration], calls: usize) -> Figures {
-    times.sort_unstable();
-    let each = |time: Duration| time.as_secs_f64() * 1e9 / calls as f64;
-    Figures { fastest: each(times[0]), median: each(times[times.len() / 2]), slowest: each(times[times.len() - 1]) }
+/// What a side took: each slice, and each repeat as the sum of its slices.
+#[derive(Default)]
+struct Times {
+    slices: Vec<Duration>,
+    repeats: Vec<Duration>,
 }
 
-/// Does the work on every side, in turn, and holds the results and buffers of all to the first's.
+impl Times {
+    fn figures(mut self, calls_a_slice: usize) -> Figures {
+        self.repeats.sort_unstable();
+        let each = |time: Duration, slices: usize| time.as_secs_f64() * 1e9 / (slices * calls_a_slice) as f64;
+        Figures {
+            fastest: each(*self.slices.iter().min().expect("a slice"), 1),
+            median: each(self.repeats[self.repeats.len() / 2], SLICES),
+            slowest: each(self.repeats[self.repeats.len() - 1], SLICES),
+        }
+    }
+}
+
+/// Does the work on every side, a slice of each in turn, and holds the results and buffers of all to the first's.
 fn timed(work: &Work, repeats: usize) -> [Figures; 3] {
     let image = work.on.image();
     let reads = (plain::read_image(&image), tuned::read_image(&image), ffi::read_image(&image));
     assert_eq!(reads, (0, 0, 0), "the image is not accepted");
     let mut buffers = SIDES.map(|_| Buffers::new());
-    let mut times = SIDES.map(|_| Vec::new());
+    let mut times = SIDES.map(|_| Times::default());
     for repeat in 0..=repeats {
-        let mut sums = [0; 3];
-        for turn in 0..SIDES.len() {
-            let side = (repeat + if repeat % 2 == 0 { turn } else { SIDES.len() - turn }) % SIDES.len();
-            let (time, sum) = work.run(side, &image, &mut buffers[side], work.times);
-            sums[side] = sum;
-            // The first repeat warms up.
-            if repeat > 0 {
-                times[side].push(time);
+        let mut whole = SIDES.map(|_| Duration::ZERO);
+        for slice in 0..SLICES {
+            let mut sums = [0; 3];
+            for turn in 0..SIDES.len() {
+                let side = (slice + if slice % 2 == 0 { turn } else { SIDES.len() - turn }) % SIDES.len();
+                let (time, sum) = work.run(side, &image, &mut buffers[side], work.times);
+                sums[side] = sum;
+                whole[side] += time;
+                times[side].slices.push(time);
             }
+            assert_eq!(sums, [sums[PLAIN]; 3], "{}: other results", work.name);
         }
-        for (side, sum) in SIDES.iter().zip(sums) {
-            assert_eq!(sum, sums[PLAIN], "{}: {side} gives other results", work.name);
+        // The first repeat warms up.
+        if repeat == 0 {
+            times = SIDES.map(|_| Times::default());
+        } else {
+            times.iter_mut().zip(whole).for_each(|(times, whole)| times.repeats.push(whole));
         }
     }
     for (side, left) in SIDES.iter().zip(&buffers) {
         assert!(*left == buffers[PLAIN], "{}: {side} leaves other bytes", work.name);
     }
-    times.map(|mut times| figures(&mut times, work.times * work.calls_each()))
+    times.map(|times| times.figures(work.times * work.calls_each()))
 }
 
 /// Callgrind's count of this program going through a work's steps that many times.
@@ -329,7 +356,7 @@ fn counted(work: usize, side: usize, times: usize) -> Option<f64> {
         .args(["count".to_owned(), work.to_string(), side.to_string(), times.to_string()])
         .output()
         .ok()?;
-    let said = String::from_utf8_lossy(&run.stderr).into_owned();
+    let said = String::from_utf8_lossy(&run.stderr);
     let count = said.lines().find_map(|line| line.split_once("Collected : "))?.1;
     count.trim().parse().ok()
 }
@@ -352,7 +379,7 @@ fn print_line(name: &str, figures: &[Figures; 3], counts: &[Option<f64>; 3]) {
         print!(" | {:>6.1} {:>6.1} {count:>5}", side.fastest, side.median);
     }
     let [plain, tuned, library] = figures;
-    let spread = figures.iter().map(|side| side.slowest / side.fastest - 1.0).fold(0.0, f64::max);
+    let spread = figures.iter().map(|side| side.slowest / side.median - 1.0).fold(0.0, f64::max);
     println!(
         " | {:>6.2} {:>6.2} | {:>6.2} {:>6.2} | {:>4.0} %",
         library.fastest / plain.fastest,
@@ -381,22 +408,21 @@ fn main() {
     let repeats = from_env("SPDM_REPEATS", 11).max(1);
     let calls = from_env("SPDM_COUNTED", 2_000);
     println!(
-        "An image of {} bytes: {} chains of {}, {} measurements. The lines below \"all mixed\" are GET_DIGESTS of other images:",
+        "An image of {} bytes: {} chains of {} bytes, {} measurements. {repeats} repeats in slices, interleaved; buffers are not \
+         cleared between calls.",
         FULL.image().len(),
         FULL.chains,
         FULL.chain,
         FULL.measurements
     );
-    println!(
-        "chains of their length, measurements. {repeats} repeats, interleaved; buffers are not cleared between calls."
-    );
+    println!("Below \"all mixed\": GET_DIGESTS of other images, by chains of how many bytes, and measurements.");
     println!("Nanoseconds of processor time a call, and instructions a call:");
     println!(
-        "{:<17} | {:<20} | {:<20} | {:<20} | {:<13} | {:<13} |",
+        "{:<17} | {:<19} | {:<19} | {:<19} | {:<13} | {:<13} |",
         "", "plain", "tuned", "library", "library/plain", "library/tuned"
     );
     print!("{:<17}", "work");
-    (0..3).for_each(|_| print!(" | {:>6} {:>6} {:>5}", "fast", "median", "instr"));
+    SIDES.iter().for_each(|_| print!(" | {:>6} {:>6} {:>5}", "fast", "median", "instr"));
     println!(" | {:>6} {:>6} | {:>6} {:>6} | spread", "fast", "median", "fast", "median");
     let mut wanted = String::new();
     for (at, work) in works.iter().enumerate() {

@@ -1,12 +1,12 @@
--- Every turn adds one good measurement record to the run (`Turn`); the bytes left fall with each. What the loop is told of is the digest size, the
--- count and the last head, which are those of what was seen before it. Assumes nothing.
+-- Every turn adds one good measurement record to the run (`Turn`); the bytes left fall with each. Of what was seen before it the loop keeps
+-- the digest size, the count and the last head. Assumes nothing.
 use mathlib.Core.Path.{refl}
 use Prim.Native.Nat.{_+_, _-_, _*_, _≤_}
 use borrow.Author.Needs.{needs}
 use native.Mathlib.Omega.{arith}
 use native.Mathlib.Nat.{mul-le-mul}
 use lib.ListN.{length}
-use Rattle.reader.proofs.Runs.{Turn, turn-first, turn-room, turn-next}
+use Rattle.reader.proofs.Runs.{Turn, turn-first, turn-next}
 use Rattle.reader.proofs.run_from.Statement.{statement}
 use Rattle.reader.proofs.run_from.Tie as tie
 
@@ -16,6 +16,7 @@ Inv-loop s from size stride base room end at₀ n₀ last₀ at n last = Turn s 
 abbrev μ-loop : tie.MeasureT-loop
 μ-loop s from size stride base room end at₀ n₀ last₀ at n last = length s - at
 
+-- how far a run may reach: no sum wraps
 strides : (c : tie.After-wide3 Inv-loop μ-loop) → c .wide3 .result * (3 + (2 + c .before .before .before .wide .result)) ≤ 255 * 260
 strides c =
     let fewer : c .wide3 .result ≤ 255 = omega arith in
