@@ -156,29 +156,22 @@ fn fault(image: &[u8]) -> Number {
     plain::Image::read(image).err().expect("a fault that the plain reader does not find")
 }
 
+/// A call on the image that was read, its digest size known; the number of a fault where it was not accepted.
+macro_rules! on_image {
+    ($image:ident, |$read:pat_param| $call:expr) => {
+        outcome(match hash_size($image) {
+            Some(32) => read::<32>($image).ok_or_else(|| fault($image)).and_then(|$read| $call),
+            Some(48) => read::<48>($image).ok_or_else(|| fault($image)).and_then(|$read| $call),
+            Some(64) => read::<64>($image).ok_or_else(|| fault($image)).and_then(|$read| $call),
+            _ => Err(fault($image)),
+        })
+    };
+}
+
 /// Reads an image: 0 if it is accepted.
 #[inline(never)]
 pub fn read_image(image: &[u8]) -> u32 {
-    let good = match hash_size(image) {
-        Some(32) => read::<32>(image).is_some(),
-        Some(48) => read::<48>(image).is_some(),
-        Some(64) => read::<64>(image).is_some(),
-        _ => false,
-    };
-    outcome(if good { Ok(0) } else { Err(fault(image)) })
-}
-
-#[inline(always)]
-fn respond_sized<const H: usize>(
-    image: &[u8],
-    state: &mut [u32],
-    transcript: &mut [u8],
-    answer: &mut [u8],
-    request: &[u8],
-    nonce: &[u8],
-) -> Result<usize, Number> {
-    let read = read::<H>(image).ok_or_else(|| fault(image))?;
-    plain::try_respond(&read, state, transcript, answer, request, nonce)
+    on_image!(image, |_| Ok(0))
 }
 
 /// Answers a request.
@@ -191,25 +184,7 @@ pub fn respond(
     request: &[u8],
     nonce: &[u8],
 ) -> u32 {
-    outcome(match hash_size(image) {
-        Some(32) => respond_sized::<32>(image, state, transcript, answer, request, nonce),
-        Some(48) => respond_sized::<48>(image, state, transcript, answer, request, nonce),
-        Some(64) => respond_sized::<64>(image, state, transcript, answer, request, nonce),
-        _ => Err(fault(image)),
-    })
-}
-
-#[inline(always)]
-fn finish_sized<const H: usize>(
-    image: &[u8],
-    state: &mut [u32],
-    transcript: &mut [u8],
-    answer: &mut [u8],
-    chip_ok: bool,
-    signature: &[u8],
-) -> Result<usize, Number> {
-    let read = read::<H>(image).ok_or_else(|| fault(image))?;
-    plain::try_finish(&read, state, transcript, answer, chip_ok, signature)
+    on_image!(image, |read| plain::try_respond(&read, state, transcript, answer, request, nonce))
 }
 
 /// Finishes the awaited answer with the chip's signature, or with its failure.
@@ -222,10 +197,5 @@ pub fn finish(
     chip_ok: bool,
     signature: &[u8],
 ) -> u32 {
-    outcome(match hash_size(image) {
-        Some(32) => finish_sized::<32>(image, state, transcript, answer, chip_ok, signature),
-        Some(48) => finish_sized::<48>(image, state, transcript, answer, chip_ok, signature),
-        Some(64) => finish_sized::<64>(image, state, transcript, answer, chip_ok, signature),
-        _ => Err(fault(image)),
-    })
+    on_image!(image, |read| plain::try_finish(&read, state, transcript, answer, chip_ok, signature))
 }
