@@ -165,14 +165,35 @@ static void demand_inputs(const struct driver *driver)
     demand(driver, memcmp(now->signature, before->signature, SMALL_ROOM) == 0, "the signature changed");
 }
 
-static void demand_unchanged(const struct driver *driver, const char *what)
+static void demand_left(const struct driver *driver, const uint32_t *state, const char *what)
 {
     const struct world *now = &driver->world, *before = &driver->before;
-    demand(driver, memcmp(now->state, before->state, sizeof now->state) == 0, what);
+    demand(driver, memcmp(now->state, state, sizeof now->state) == 0, what);
     demand(driver, memcmp(now->transcript, before->transcript, TRANSCRIPT_ROOM) == 0, what);
 }
 
-// Demand 1, without any model: a number changes nothing, an ERROR only its own bytes, an answer only its own.
+static void demand_unchanged(const struct driver *driver, const char *what)
+{
+    demand_left(driver, driver->before.state, what);
+}
+
+// A GET_MEASUREMENTS refused at step 7, 8 or 9, which the ERROR's code tells, since it has a header.
+static bool empties_m(const struct world *before, uint8_t code)
+{
+    return before->request_length >= 4 && before->request[1] == 0xE0 && (code == 0x01 || code == 0x0D || code == 0x05);
+}
+
+static void demand_refusal(const struct driver *driver)
+{
+    uint32_t left[WORDS_ROOM];
+    memcpy(left, driver->before.state, sizeof left);
+    if (empties_m(&driver->before, driver->world.answer[2]))
+        left[SPDM_STATE_M] = 0;
+    demand_left(driver, left, "a refusal changed the transcript, or of the state what it has to leave");
+}
+
+// Demand 1, without any model: a number changes nothing, an ERROR only its own bytes and M's count, an answer only its
+// own.
 static void demand_rules(struct driver *driver, uint32_t result, bool finishing)
 {
     const struct world *now = &driver->world, *before = &driver->before;
@@ -189,7 +210,7 @@ static void demand_rules(struct driver *driver, uint32_t result, bool finishing)
     demand(driver, finishing || same_rest(now->answer, before->answer, length, ANSWER_ROOM),
         "a byte past the answer changed");
     if (!finishing && now->answer[1] == 0x7F) {
-        demand_unchanged(driver, "a refusal changed the state or the transcript");
+        demand_refusal(driver);
         driver->counts.errors++;
     } else if (!finishing) {
         driver->counts.accepted++;

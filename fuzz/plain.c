@@ -454,7 +454,7 @@ static uint32_t serve(struct call *call, unsigned code)
     }
 }
 
-// Steps 1 to 6, then the message's own.
+// Steps 1 to 6, then the message's own. A GET_MEASUREMENTS that these refuse empties M.
 static uint32_t answer_request(struct call *call)
 {
     if (call->request_length < 4)
@@ -470,7 +470,10 @@ static uint32_t answer_request(struct call *call)
         return error(call, 0x41);
     if (!is_expected(call, code))
         return error(call, 0x04);
-    return serve(call, code);
+    const uint32_t length = serve(call, code);
+    if (code == 0xE0 && call->answer[1] == 0x7F)
+        call->state[M] = 0;
+    return length;
 }
 
 uint32_t plain_respond(const uint8_t *image, size_t image_len, uint32_t *state, size_t state_len, uint8_t *transcript,

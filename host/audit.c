@@ -164,7 +164,8 @@ static void pad_and_reserve(struct stage *stage)
     check_verdict(stage, panel_attest(&stage->panel, LARGE, 0, 100), GOOD, "reserved bytes are signed as they came");
 }
 
-// B is emptied by GET_MEASUREMENTS, M by any other request; the panel does the same with its log.
+// B is emptied by GET_MEASUREMENTS, M by any other request and by a GET_MEASUREMENTS that is refused; the panel does the
+// same with its log.
 static void empty_transcripts(struct stage *stage)
 {
     struct panel *panel = &stage->panel;
@@ -174,6 +175,8 @@ static void empty_transcripts(struct stage *stage)
     show_check(stage->show, good && panel_challenge(panel, 0, 0) == GOOD, "GET_MEASUREMENTS empties B");
     good = panel_measurements(panel, 0, false) == GOOD && panel_digests(panel) == GOOD;
     show_check(stage->show, good && panel_measurements(panel, 0, true) == GOOD, "GET_DIGESTS empties M");
+    good = panel_measurements(panel, 0, false) == GOOD && panel_measurements(panel, 1, true) == REFUSED;
+    show_check(stage->show, good && panel_measurements(panel, 0, true) == GOOD, "a refused GET_MEASUREMENTS empties M");
     good = panel_digests(panel) == GOOD && panel_connect(panel, LARGE) == GOOD;
     show_check(stage->show, good && panel_challenge(panel, 0, 0) == GOOD, "GET_VERSION empties all");
 }

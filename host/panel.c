@@ -431,6 +431,8 @@ enum verdict panel_measurements(struct panel *panel, uint8_t slot, bool is_signe
     if (RAND_bytes(text + 4, NONCE_SIZE) != 1)
         return SILENT;
     enum verdict verdict = ask(panel, request, MEASUREMENTS);
+    if (verdict == REFUSED)
+        panel->m.length = 0;
     if (verdict == GOOD)
         verdict = check_record(panel, is_signed ? slot : 0, signature);
     if (verdict != GOOD)

@@ -23,6 +23,8 @@ pub const B_ROOM: usize = 8_192;
 pub const M_ROOM: usize = 7_680;
 /// The words of a state.
 pub const STATE_WORDS: usize = 8;
+/// The one that counts the bytes of M.
+const M_USED: usize = 5;
 /// The bytes of the prefix to be signed.
 pub const PREFIX: usize = 100;
 
@@ -562,7 +564,8 @@ struct Accepted {
 type Served = Result<Accepted, Refusal>;
 
 impl<'a, 'i, P: Provision<'i>> Exchange<'a, P> {
-    fn serve(self) -> Served {
+    /// Steps 1 to 6: the code of a request that may be looked at further.
+    fn admit(&self) -> Result<u8, Refusal> {
         let request = self.request;
         let &[version, code, ..] = request else {
             return Err(Refusal::InvalidRequest);
@@ -585,14 +588,23 @@ impl<'a, 'i, P: Provision<'i>> Exchange<'a, P> {
             return Err(Refusal::VersionMismatch);
         }
         match (code, self.state.phase) {
-            (0x84, _) => self.version(),
-            (0xE1, Phase::Version) => self.capabilities(),
-            (0xE3, Phase::Capabilities) => self.algorithms(),
-            (0x81, Phase::Negotiated) => self.digests(),
-            (0x82, Phase::Negotiated) => self.certificate(),
-            (0x83, Phase::Negotiated) => self.challenge(),
-            (0xE0, Phase::Negotiated) if self.state.selected => self.measurements(),
+            (0x84, _) | (0xE1, Phase::Version) | (0xE3, Phase::Capabilities) => Ok(code),
+            (0x81..=0x83, Phase::Negotiated) => Ok(code),
+            (0xE0, Phase::Negotiated) if self.state.selected => Ok(code),
             _ => Err(Refusal::Unexpected),
+        }
+    }
+
+    /// Steps 7 to 9, and the answer.
+    fn serve(self, code: u8) -> Served {
+        match code {
+            0x84 => self.version(),
+            0xE1 => self.capabilities(),
+            0xE3 => self.algorithms(),
+            0x81 => self.digests(),
+            0x82 => self.certificate(),
+            0x83 => self.challenge(),
+            _ => self.measurements(),
         }
     }
 
@@ -888,12 +900,21 @@ pub(crate) fn try_respond<'i>(
     let nonce = nonce.try_into().map_err(|_| Number::NonceLength)?;
     let state = State::load(words, image)?;
     let exchange = Exchange { image, state, transcript, answer: &mut *answer, request, nonce };
-    match exchange.serve() {
+    let code = match exchange.admit() {
+        Ok(code) => code,
+        Err(refusal) => return Ok(refusal.write(state.phase, answer)),
+    };
+    match exchange.serve(code) {
         Ok(accepted) => {
             accepted.state.store(words);
             Ok(accepted.length)
         }
-        Err(refusal) => Ok(refusal.write(state.phase, answer)),
+        Err(refusal) => {
+            if code == 0xE0 {
+                words[M_USED] = 0;
+            }
+            Ok(refusal.write(state.phase, answer))
+        }
     }
 }
 

@@ -799,6 +799,8 @@ struct Met {
     numbers: [u64; 17],
     errors: [u64; 256],
     accepted: [u64; 256],
+    /// By the ERROR's code: refusals that found bytes in M and emptied it.
+    emptied: [u64; 256],
     signed: u64,
     finished: [u64; 2],
     shown: u64,
@@ -811,12 +813,18 @@ impl Met {
             numbers: [0; 17],
             errors: [0; 256],
             accepted: [0; 256],
+            emptied: [0; 256],
             signed: 0,
             finished: [0; 2],
             shown: 0,
             images: [0; 17],
         }
     }
+}
+
+/// Whether an ERROR tells that M was emptied: a GET_MEASUREMENTS with a header was refused at step 7, 8 or 9.
+fn empties_m(request: &[u8], code: u8) -> bool {
+    request.len() >= 4 && request[1] == 0xE0 && matches!(code, 0x01 | 0x0D | 0x05)
 }
 
 struct Host {
@@ -1018,10 +1026,16 @@ impl Host {
                 return Err("bytes past the answer were changed (on both sides)".to_owned());
             }
             match &setting.call {
-                Call::Respond { .. } if answer.plain[1] == 0x7F => {
-                    met.errors[usize::from(answer.plain[2])] += 1;
-                    if state.plain != setting.state {
-                        return Err("an ERROR, and yet the state was changed (on both sides)".to_owned());
+                Call::Respond { request, .. } if answer.plain[1] == 0x7F => {
+                    let code = answer.plain[2];
+                    met.errors[usize::from(code)] += 1;
+                    let mut left = setting.state.clone();
+                    if empties_m(request, code) {
+                        met.emptied[usize::from(code)] += u64::from(left[5] != 0);
+                        left[5] = 0;
+                    }
+                    if state.plain != left {
+                        return Err("an ERROR, and yet the state is not what it leaves (on both sides)".to_owned());
                     }
                 }
                 Call::Respond { request, .. } => {
@@ -1143,6 +1157,9 @@ fn random_runs() {
         for code in [0x81, 0x82, 0x83, 0x84, 0xE0, 0xE1, 0xE3] {
             assert!(met.accepted[code] > 0, "request {code:#04x} was never accepted");
         }
+        for code in [0x01, 0x05, 0x0D] {
+            assert!(met.emptied[code] > 0, "error {code:#04x} never emptied M");
+        }
         assert!(met.finished.iter().all(|&count| count > 0) && met.signed > 0 && met.shown > 0);
     }
 }
@@ -1192,6 +1209,7 @@ fn print_met(met: &Met) {
     print_counts("numbers ", &met.numbers, false);
     print_counts("errors  ", &met.errors, true);
     print_counts("accepted", &met.accepted, true);
+    print_counts("emptied ", &met.emptied, true);
     print_counts("images  ", &met.images, false);
     println!(
         "awaiting a signature: {}; finished: {} signed, {} chip failed; shown to be signed: {}",

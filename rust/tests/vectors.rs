@@ -77,7 +77,7 @@ fn images() {
 type Respond = fn(&[u8], &mut [u32], &mut [u8], &mut [u8], &[u8], &[u8]) -> u32;
 type Finish = fn(&[u8], &mut [u32], &mut [u8], &mut [u8], bool, &[u8]) -> u32;
 
-/// Runs base-runs.txt through one responder, and gives the count of compared lines and the faults.
+/// Runs request-3-runs.txt through one responder, and gives the count of compared lines and the faults.
 fn run(who: &str, respond: Respond, finish: Finish) -> (usize, Vec<String>) {
     let mut images: HashMap<String, Vec<u8>> = HashMap::new();
     let mut transcript: Vec<u8> = Vec::new();
@@ -143,10 +143,10 @@ fn run(who: &str, respond: Respond, finish: Finish) -> (usize, Vec<String>) {
                 );
                 let expected = format!("{expected_number} {expected_answer} {}", rest.join(" "));
                 if found != expected {
-                    faults.push(format!("base-runs.txt:{at}: {who}:\n  found    {found}\n  expected {expected}"));
+                    faults.push(format!("request-3-runs.txt:{at}: {who}:\n  found    {found}\n  expected {expected}"));
                 }
                 if answer.get(length..) != before.get(length..) {
-                    faults.push(format!("base-runs.txt:{at}: {who}: bytes past the answer were changed"));
+                    faults.push(format!("request-3-runs.txt:{at}: {who}: bytes past the answer were changed"));
                 }
                 if state[6] == 0 {
                     kept.clear();
@@ -154,7 +154,7 @@ fn run(who: &str, respond: Respond, finish: Finish) -> (usize, Vec<String>) {
                     kept = answer[..length].to_vec();
                 }
             }
-            _ => panic!("base-runs.txt:{at}: not understood: {line}"),
+            _ => panic!("request-3-runs.txt:{at}: not understood: {line}"),
         }
     }
     (compared, faults)
@@ -162,7 +162,7 @@ fn run(who: &str, respond: Respond, finish: Finish) -> (usize, Vec<String>) {
 
 fn check(who: &str, respond: Respond, finish: Finish) {
     let (compared, faults) = run(who, respond, finish);
-    println!("base-runs.txt: {who}: {compared} calls compared, {} faults", faults.len());
+    println!("request-3-runs.txt: {who}: {compared} calls compared, {} faults", faults.len());
     let shown = faults.iter().take(20).cloned().collect::<Vec<_>>().join("\n");
     assert!(faults.is_empty(), "{} faults, the first:\n{shown}", faults.len());
     assert!(compared > 0, "no lines");

@@ -12,17 +12,23 @@ use model::Decision;
 use model::Kind;
 use model::State;
 use model::limits::BUSY;
+use model::limits::BUSY_STEP;
+use model::limits::CODE_STEP;
 use model::limits::HEADER_LENGTH;
 use model::limits::INVALID_REQUEST;
+use model::limits::LONG_STEP;
 use model::limits::MESSAGE_LIMIT;
 use model::limits::NONCE_LENGTH;
+use model::limits::PHASE_STEP;
 use model::limits::REQUEST_TOO_LARGE;
 use model::limits::SHORT_ANSWER;
+use model::limits::SHORT_STEP;
 use model::limits::SHORT_TRANSCRIPT;
 use model::limits::TRANSCRIPT_LENGTH;
 use model::limits::UNEXPECTED_REQUEST;
 use model::limits::UNSUPPORTED_REQUEST;
 use model::limits::VERSION_MISMATCH;
+use model::limits::VERSION_STEP;
 use model::limits::WRONG_NONCE;
 use model::limits::WRONG_STATE;
 ghost use mathlib.Core.Path.{_≡_};
@@ -47,7 +53,7 @@ fn last_steps(image: &[u8], ix: Index, s: State, r: &[u8], k: Kind) -> Decision
         Kind::Certificate => certificate::decide_certificate(image, ix, s, r),
         Kind::Challenge => challenge::decide_challenge(image, ix, s, r),
         Kind::Measurements => measurements::decide_measurements(image, ix, s, r),
-        Kind::Unsupported => steps::refusal(UNSUPPORTED_REQUEST, wire::byte_at(r, 1)),
+        Kind::Unsupported => steps::refusal(CODE_STEP, UNSUPPORTED_REQUEST, wire::byte_at(r, 1)),
     }
 }
 
@@ -57,13 +63,13 @@ fn kind_steps(image: &[u8], ix: Index, s: State, r: &[u8], k: Kind) -> Decision
     ensures { λ d. ⌜ d ≡ kindSteps (factsAt (now (image .entry)) ix) s (now (r .entry)) k (lastSteps (factsAt (now (image .entry)) ix) s (now (r .entry)) k) ⌝ }
 {
     if !steps::serves_kind(ix, k) {
-        return steps::refusal(UNSUPPORTED_REQUEST, r[1]);
+        return steps::refusal(CODE_STEP, UNSUPPORTED_REQUEST, r[1]);
     }
     if r[0] != steps::version_for(k) {
-        return steps::refusal(VERSION_MISMATCH, 0);
+        return steps::refusal(VERSION_STEP, VERSION_MISMATCH, 0);
     }
     if !steps::in_phase(s, k) {
-        return steps::refusal(UNEXPECTED_REQUEST, 0);
+        return steps::refusal(PHASE_STEP, UNEXPECTED_REQUEST, 0);
     }
     last_steps(image, ix, s, r, k)
 }
@@ -74,14 +80,14 @@ fn decide_request(image: &[u8], ix: Index, s: State, r: &[u8]) -> Decision
     ensures { λ d. ⌜ d ≡ requestDecision (factsAt (now (image .entry)) ix) s (now (r .entry)) ⌝ }
 {
     if r.len() < HEADER_LENGTH {
-        return steps::refusal(INVALID_REQUEST, 0);
+        return steps::refusal(SHORT_STEP, INVALID_REQUEST, 0);
     }
     if MESSAGE_LIMIT < r.len() {
-        return steps::refusal(REQUEST_TOO_LARGE, 0);
+        return steps::refusal(LONG_STEP, REQUEST_TOO_LARGE, 0);
     }
     let code = r[1];
     if steps::must_wait(s, code) {
-        return steps::refusal(BUSY, 0);
+        return steps::refusal(BUSY_STEP, BUSY, 0);
     }
     kind_steps(image, ix, s, r, steps::kind_of(code))
 }

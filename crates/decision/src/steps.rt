@@ -3,7 +3,9 @@ use image::Index;
 use model::Decision;
 use model::Kind;
 use model::State;
+use model::limits::FIELDS_STEP;
 use model::limits::INVALID_REQUEST;
+use model::limits::ROOM_STEP;
 use model::limits::UNSPECIFIED;
 use model::limits::VERSION_10;
 use model::limits::VERSION_12;
@@ -105,17 +107,17 @@ pub(crate) fn in_phase(s: State, k: Kind) -> bool
     }
 }
 
-pub(crate) fn refusal(code: u8, extra: u8) -> Decision
-    ensures { λ r. ⌜ r ≡ Decision.Error code extra ⌝ }
+pub(crate) fn refusal(step: u8, code: u8, extra: u8) -> Decision
+    ensures { λ r. ⌜ r ≡ Decision.Error step code extra ⌝ }
 {
-    Decision::Error { code, extra }
+    Decision::Error { step, code, extra }
 }
 
 // Step 7 refuses with this.
 pub(crate) fn invalid_request() -> Decision
     ensures { λ r. ⌜ r ≡ invalid ⌝ }
 {
-    refusal(INVALID_REQUEST, 0)
+    refusal(FIELDS_STEP, INVALID_REQUEST, 0)
 }
 
 // Steps 8 and 9.
@@ -126,7 +128,7 @@ pub(crate) fn size_steps(s: State, size: usize, used: usize, limit: u32, next: D
         return Decision::TooLarge { size };
     }
     if (limit as usize) < used {
-        return refusal(UNSPECIFIED, 0);
+        return refusal(ROOM_STEP, UNSPECIFIED, 0);
     }
     next
 }

@@ -11,13 +11,13 @@ use Rattle.wire.specs.Pick.{pick}
 use Rattle.wire.proofs.Picks.{pick-case}
 use Rattle.image.specs.Contents.{Contents}
 use Rattle.image.specs.Reading.{Result, number, found}
-use Rattle.model.specs.Limits.{messageLimit, transcriptLength, nonceLength, headerLength, version10, versionMismatch}
+use Rattle.model.specs.Limits.{messageLimit, transcriptLength, nonceLength, headerLength, version10, versionStep, versionMismatch}
 use Rattle.model.specs.Facts.{Facts, factsOf}
 use Rattle.model.specs.State.{inBounds, phaseFits, holdsOnly, selectionFits, awaitedFits, fresh}
 use Rattle.model.specs.Steps.{versionByte, codeByte, kindOf, mustWait, serves, versionFor, inPhase, kindSteps, firstSteps}
 use Rattle.model.specs.Version.{versionBytes}
 use Rattle.model.specs.Decisions.{lastSteps, requestDecision, decisionOf}
-use Rattle.model.specs.Effects.{Change, Effect, host, refuse, accept, answered, effectOf, effectBy}
+use Rattle.model.specs.Effects.{Kept, Change, Effect, host, refuse, accept, answered, effectOf, effectBy}
 use Rattle.model.specs.declared.State.{State}
 use Rattle.model.specs.declared.Kind.the-variants as kind
 use Rattle.model.specs.declared.Decision.{Decision}
@@ -35,7 +35,7 @@ fresh-bounds f = refl
 -- steps 4–9 of a GET_VERSION: only its version byte is tested
 version-steps : (f : Facts) (s : State) (r : List ℕ) → codeByte r ≡ 0x84
     → kindSteps f s r (kindOf (codeByte r)) (lastSteps f s r (kindOf (codeByte r)))
-    ≡ pick (eqb (versionByte r) version10) decision.Version (decision.Error versionMismatch 0)
+    ≡ pick (eqb (versionByte r) version10) decision.Version (decision.Error versionStep versionMismatch 0)
 unfolding kindSteps kindOf lastSteps serves versionFor inPhase pick
 version-steps f s r e = rw e
 
@@ -43,8 +43,8 @@ version-steps f s r e = rw e
 no-number : {A : Type 0} (n : ℕ) (bytes : List ℕ) (change : Change) → host n ≡ accept bytes change → A
 no-number n bytes change e = let z : _≡_ {A = ℕ} 0 1 = cc in absurd (omega arith)
 
-no-error : {A : Type 0} (l bytes : List ℕ) (change : Change) → refuse l ≡ accept bytes change → A
-no-error l bytes change e = let z : _≡_ {A = ℕ} 0 1 = cc in absurd (omega arith)
+no-error : {A : Type 0} (l : List ℕ) (kept : Kept) (bytes : List ℕ) (change : Change) → refuse l kept ≡ accept bytes change → A
+no-error l kept bytes change e = let z : _≡_ {A = ℕ} 0 1 = cc in absurd (omega arith)
 
 -- a test that refuses with x where it holds, or with y where it does not
 unless-held : (P : Decision → Type 0) (b : Bool) (x y : Decision) → P x → (b ≡ false → P y) → P (pick b x y)
@@ -66,10 +66,10 @@ decided c s answerLength lentLength r nonce bytes change code =
     (λ t1. unless-held P (ltb lentLength transcriptLength) _ _ (no-number _ bytes change)
     (λ t2. where-held P (eqb (length nonce) nonceLength) _ _ (no-number _ bytes change)
     (λ t3. where-held P (inBounds f s) _ _ (no-number _ bytes change)
-    (λ _. unless-held P (ltb (length r) headerLength) _ _ (no-error _ bytes change)
-    (λ t4. unless-held P (ltb messageLimit (length r)) _ _ (no-error _ bytes change)
-    (λ t5. unless-held P (mustWait s (codeByte r)) _ _ (no-error _ bytes change)
-    (λ _. rw (version-steps f s r code) (where-held P (eqb (versionByte r) version10) _ _ (no-error _ bytes change)
+    (λ _. unless-held P (ltb (length r) headerLength) _ _ (no-error _ _ bytes change)
+    (λ t4. unless-held P (ltb messageLimit (length r)) _ _ (no-error _ _ bytes change)
+    (λ t5. unless-held P (mustWait s (codeByte r)) _ _ (no-error _ _ bytes change)
+    (λ _. rw (version-steps f s r code) (where-held P (eqb (versionByte r) version10) _ _ (no-error _ _ bytes change)
     (λ t6 e. (e, rw (t1, t2, t3, fresh-bounds f, t4, t5, version-steps f fresh r code, t6)))))))))))
 
 -- the same, by what the image reads as

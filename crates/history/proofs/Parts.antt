@@ -1,5 +1,5 @@
--- The parts of the transcript after an accepted request. Each part, kept or emptied, holds what is appended if it is the request's own, and
--- nothing new if not: the three parts lie apart, and what is appended fits its own.
+-- The parts of the transcript after a request. A refusal only keeps or empties each. An accepted request does so too, and then its own part
+-- holds what is appended, and the others nothing new: the three parts lie apart, and what is appended fits its own.
 use mathlib.Core.Path.{_≡_, refl, sym, ap, _∙_}
 use mathlib.Core.Bool.{Bool, true, false}
 use mathlib.Core.List.{List, [], _∷_, _++_, append-nil}
@@ -12,9 +12,9 @@ use Rattle.wire.specs.Bytes.{part, splice}
 use Rattle.wire.specs.Pick.{pick}
 use Rattle.wire.proofs.Laws.{take-splice, drop-splice, front-splice}
 use Rattle.model.specs.Limits.{transcriptLength}
-use Rattle.model.specs.Effects.{Part, inA, inB, inM, partFor, keeps, Change}
+use Rattle.model.specs.Effects.{Part, inA, inB, inM, partFor, Kept, keeps, Change}
 use Rattle.model.specs.Plain.{samePart, listAfter}
-use Rattle.model.specs.Box.{startOf, limitOf, countOf, partIn, countKept, countAfter, changedState, placeFor}
+use Rattle.model.specs.Box.{startOf, limitOf, countOf, partIn, countKept, countAfter, changedState, placeFor, refusedState}
 use Rattle.model.specs.declared.State.{State}
 
 -- stores that fit into a list's front leave what follows it
@@ -84,10 +84,22 @@ ends inA = omega arith
 ends inB = omega arith
 ends inM = omega arith
 
+-- a part that is kept or emptied
+pub part-kept : (o n : ℕ) (keep : Bool) (t : List ℕ) → part t o (pick keep n 0) ≡ pick keep (part t o n) []
+unfolding pick
+part-kept o n true t = refl
+part-kept o n false t = refl
+
 pick-le : (keep : Bool) (n : ℕ) → pick keep n 0 ≤ n
 unfolding pick
 pick-le true n = omega arith
 pick-le false n = omega arith
+
+-- what a refusal leaves is within the limits
+pub kept-within : (kept : Kept) (s : State) → ((x : Part) → countOf x s ≤ limitOf x) → (x : Part) → countOf x (refusedState kept s) ≤ limitOf x
+kept-within kept s within inA = omega (arith, within inA, pick-le (kept .A) (s .a))
+kept-within kept s within inB = omega (arith, within inB, pick-le (kept .B) (s .b))
+kept-within kept s within inM = omega (arith, within inM, pick-le (kept .M) (s .m))
 
 module _ (c : Change) (s : State) (within : (x : Part) → countOf x s ≤ limitOf x) where
   -- the part x, where c appends to the part y

@@ -12,15 +12,15 @@ use Rattle.wire.specs.Pick.{pick}
 use Rattle.wire.proofs.Picks.{pick-case, not-first, when-true, when-false, eqb-other}
 use Rattle.image.specs.Contents.{Contents}
 use Rattle.image.specs.Reading.{found}
-use Rattle.model.specs.Limits.{peerLeast, headerLength}
+use Rattle.model.specs.Limits.{peerLeast, headerLength, sizeStep}
 use Rattle.model.specs.Facts.{Facts, factsOf}
 use Rattle.model.specs.State.{holdsOnly, phaseFits, inBounds}
 use Rattle.model.specs.Steps.{codeByte, kindOf, inPhase, kindSteps, firstSteps, sizeSteps}
 use Rattle.model.specs.Algorithms.{algorithmsDecision}
 use Rattle.model.specs.Digests.{digestsDecision, digestsBytes}
 use Rattle.model.specs.Decisions.{lastSteps, requestDecision, decisionOf}
-use Rattle.model.specs.Effects.{effectOf, effectBy}
-use Rattle.model.specs.Box.{stateAfter}
+use Rattle.model.specs.Effects.{keptByRefusal, effectOf, effectBy}
+use Rattle.model.specs.Box.{refusedState, stateAfter}
 use Rattle.model.specs.declared.State.{State}
 use Rattle.model.specs.declared.Kind.{Kind}
 use Rattle.model.specs.declared.Kind.the-variants as kind
@@ -62,7 +62,7 @@ bounds-two f s e p =
 module _ (c : Contents) (s : State) (answerLength lentLength : ℕ) (r nonce : List ℕ) where
   -- what holds of every number, of every ERROR, and of what the kind's own steps come to, holds of what a request of that kind comes to
   walk : (P : Decision → Type 0) (k : Kind) → kindOf (codeByte r) ≡ k
-      → ((n : ℕ) → P (decision.Number n)) → ((code extra : ℕ) → P (decision.Error code extra))
+      → ((n : ℕ) → P (decision.Number n)) → ((step code extra : ℕ) → P (decision.Error step code extra))
       → (inBounds (factsOf c) s ≡ true → inPhase s k ≡ true → P (lastSteps (factsOf c) s r k))
       → P (decisionOf (factsOf c) s answerLength lentLength (length nonce) r)
   unfolding decisionOf requestDecision firstSteps kindSteps
@@ -71,13 +71,13 @@ module _ (c : Contents) (s : State) (answerLength lentLength : ℕ) (r nonce : L
       pick-case P _ _ _ (λ _. number _) (λ _.
       pick-case P _ _ _ (λ _.
       pick-case P _ _ _ (λ within.
-      pick-case P _ _ _ (λ _. error _ _) (λ _.
-      pick-case P _ _ _ (λ _. error _ _) (λ _.
-      pick-case P _ _ _ (λ _. error _ _) (λ _.
+      pick-case P _ _ _ (λ _. error _ _ _) (λ _.
+      pick-case P _ _ _ (λ _. error _ _ _) (λ _.
+      pick-case P _ _ _ (λ _. error _ _ _) (λ _.
       rw e (pick-case P _ _ _ (λ _.
       pick-case P _ _ _ (λ _.
       pick-case P _ _ _ (λ phase. own within phase)
-      (λ _. error _ _)) (λ _. error _ _)) (λ _. error _ _)))))) (λ _. number _)) (λ _. number _)))
+      (λ _. error _ _ _)) (λ _. error _ _ _)) (λ _. error _ _ _)))))) (λ _. number _)) (λ _. number _)))
 
   -- if it is accepted, the reads may follow with B empty
   record Leads (d : Decision) : Type 0 where
@@ -87,9 +87,9 @@ module _ (c : Contents) (s : State) (answerLength lentLength : ℕ) (r nonce : L
   unfolding effectOf
   no-number n = record { to = λ a. absurd a }
 
-  no-error : (code extra : ℕ) → Leads (decision.Error code extra)
+  no-error : (step code extra : ℕ) → Leads (decision.Error step code extra)
   unfolding effectOf
-  no-error code extra = record { to = λ a. absurd a }
+  no-error step code extra = record { to = λ a. absurd a }
 
   module _ (peer : peerLeast ≤ s .peer) (empty : s .b ≡ 0) where
     algorithms-lead : (length selection : ℕ) → Leads (decision.Algorithms length selection)
@@ -99,14 +99,14 @@ module _ (c : Contents) (s : State) (answerLength lentLength : ℕ) (r nonce : L
     algorithms-steps : Leads (algorithmsDecision (factsOf c) r)
     unfolding algorithmsDecision
     algorithms-steps =
-        pick-case Leads _ _ _ (λ _. no-error _ _) (λ _.
-        pick-case Leads _ _ _ (λ _. no-error _ _) (λ _.
-        pick-case Leads _ _ _ (λ _. no-error _ _) (λ _.
-        pick-case Leads _ _ _ (λ _. no-error _ _) (λ _.
+        pick-case Leads _ _ _ (λ _. no-error _ _ _) (λ _.
+        pick-case Leads _ _ _ (λ _. no-error _ _ _) (λ _.
+        pick-case Leads _ _ _ (λ _. no-error _ _ _) (λ _.
+        pick-case Leads _ _ _ (λ _. no-error _ _ _) (λ _.
         pick-case Leads _ _ _ (λ _.
         pick-case Leads _ _ _ (λ _.
         pick-case Leads _ _ _ (λ _. algorithms-lead _ _)
-        (λ _. no-error _ _)) (λ _. no-error _ _)) (λ _. no-error _ _)))))
+        (λ _. no-error _ _ _)) (λ _. no-error _ _ _)) (λ _. no-error _ _ _)))))
 
   -- an accepted NEGOTIATE_ALGORITHMS
   pub negotiated : codeByte r ≡ 0xE3 → Accepted (effectBy (found c) s answerLength lentLength r nonce) → Ready 0 (stateAfter (effectBy (found c) s answerLength lentLength r nonce) s)
@@ -123,17 +123,22 @@ module _ (c : Contents) (s : State) (answerLength lentLength : ℕ) (r nonce : L
     still : Ready digestsMost s
     still = record { phase = ready .phase; peer = ready .peer; idle = ready .idle; used = omega (arith, ready .used) }
 
+    -- a refusal leaves B
+    still-refused : (step : ℕ) → Ready digestsMost (refusedState (keptByRefusal step (codeByte r)) s)
+    unfolding pick
+    still-refused step = record { phase = ready .phase; peer = ready .peer; idle = ready .idle; used = still .used }
+
     at-number : (n : ℕ) → Stays (decision.Number n)
     unfolding effectOf
     at-number n = record { to = still }
 
-    at-error : (code extra : ℕ) → Stays (decision.Error code extra)
+    at-error : (step code extra : ℕ) → Stays (decision.Error step code extra)
     unfolding effectOf
-    at-error code extra = record { to = still }
+    at-error step code extra = record { to = still-refused step }
 
     at-large : (size : ℕ) → Stays (decision.TooLarge size)
     unfolding effectOf
-    at-large size = record { to = still }
+    at-large size = record { to = still-refused sizeStep }
 
     at-digests : Stays decision.Digests
     unfolding effectOf pick
@@ -141,7 +146,7 @@ module _ (c : Contents) (s : State) (answerLength lentLength : ℕ) (r nonce : L
 
     digests-steps : Stays (digestsDecision (factsOf c) s)
     unfolding digestsDecision sizeSteps
-    digests-steps = pick-case Stays _ _ _ (λ _. at-large _) (λ _. pick-case Stays _ _ _ (λ _. at-error _ _) (λ _. at-digests))
+    digests-steps = pick-case Stays _ _ _ (λ _. at-large _) (λ _. pick-case Stays _ _ _ (λ _. at-error _ _ _) (λ _. at-digests))
 
     -- a GET_DIGESTS, accepted or refused
     pub digested : codeByte r ≡ 0x81 → Ready digestsMost (stateAfter (effectBy (found c) s answerLength lentLength r nonce) s)

@@ -6,14 +6,14 @@ use native.Mathlib.Omega.{arith}
 use lib.ListN.{length, take, drop, length-take, take-append-drop}
 use Rattle.wire.specs.Bytes.{Bytes, splice}
 use Rattle.wire.proofs.Laws.{splice-length}
-use Rattle.model.specs.Limits.{transcriptLength, aLimit, bLimit, mLimit}
-use Rattle.model.specs.Effects.{Part, inA, inB, inM, Change, Effect, host, refuse, accept, replyOf, bytesOf}
-use Rattle.model.specs.Plain.{Plain, changed, plainAfter, said, plainEffect, plainSaid, plainNext}
+use Rattle.model.specs.Limits.{transcriptLength, aLimit, bLimit, mLimit, aStart, bStart, mStart}
+use Rattle.model.specs.Effects.{Part, inA, inB, inM, Kept, Change, Effect, host, refuse, accept, replyOf, bytesOf}
+use Rattle.model.specs.Plain.{Plain, changed, refused, plainAfter, said, plainEffect, plainSaid, plainNext}
 use Rattle.model.specs.Box.{limitOf, countOf, placeFor, stateAfter, transcriptAfter}
 use Rattle.model.specs.declared.State.{State}
 use Rattle.model.proofs.Ready.{Room, Ready, ready-image}
 use Rattle.history.specs.Runs.{ask, Held, lentOf, askEffect, awaitedAfter, boxNext, readBack, boxSaid, view}
-use Rattle.history.proofs.Parts.{splice-lent, part-after, count-after, place-after}
+use Rattle.history.proofs.Parts.{splice-lent, part-kept, kept-within, part-after, count-after, place-after}
 use Rattle.history.proofs.Alike.{Good, Follows, plain-equal, state-view, answer-back}
 
 -- what stands after a request that came to e
@@ -55,23 +55,31 @@ accepted bytes change h answer lent z =
       same = rw e (splice-length t at (change .bytes));
     }
 
--- a number or an ERROR changes nothing
-unchanged : (h : Held) (lent : ℕ) → after (refuse []) h lent ≡ h
-unchanged h lent = rw (take-append-drop lent (h .transcript))
+-- a number changes nothing
+unchanged : (n : ℕ) (h : Held) (lent : ℕ) → after (host n) h lent ≡ h
+unchanged n h lent = rw (take-append-drop lent (h .transcript))
+
+-- an ERROR changes no byte; what it leaves of the parts is within their limits as before
+refusal : (bytes : List ℕ) (kept : Kept) (h : Held) (answer : List ℕ) (lent : ℕ) → Good h → length bytes ≤ length answer → Stepped (refuse bytes kept) h answer lent
+refusal bytes kept h answer lent g short =
+    let s = h .state in
+    let t = h .transcript in
+    let e : take lent t ++ drop lent t ≡ t = take-append-drop lent t in
+    record {
+      said = answer-back answer bytes short;
+      next = rw e (plain-equal (refused kept (view h)) _ _ _ (part-kept aStart (s .a) (kept .A) t) (part-kept bStart (s .b) (kept .B) t) (part-kept mStart (s .m) (kept .M) t));
+      good = record { within = kept-within kept s (g .within); long = rw e (g .long); awaited = g .awaited };
+      same = ap length e;
+    }
 
 step : (e : Effect) (h : Held) (answer : List ℕ) (lent : ℕ) → Good h → Ready (h .state) (length answer) (length (lentOf h lent)) e → Stepped e h answer lent
 step (host n) h answer lent g z = record {
   said = refl;
-  next = ap view (unchanged h lent);
-  good = rw (unchanged h lent) g;
-  same = ap (λ (x : Held). length (x .transcript)) (unchanged h lent);
+  next = ap view (unchanged n h lent);
+  good = rw (unchanged n h lent) g;
+  same = ap (λ (x : Held). length (x .transcript)) (unchanged n h lent);
 }
-step (refuse bytes) h answer lent g z = record {
-  said = answer-back answer bytes (omega (arith, z .0, z .1));
-  next = ap view (unchanged h lent);
-  good = rw (unchanged h lent) g;
-  same = ap (λ (x : Held). length (x .transcript)) (unchanged h lent);
-}
+step (refuse bytes kept) h answer lent g z = refusal bytes kept h answer lent g (omega (arith, z .0, z .1))
 step (accept bytes change) h answer lent g z = accepted bytes change h answer lent z
 
 -- a plain box that comes to the same effect, and holds the same after it, is followed

@@ -31,7 +31,7 @@ effectOn image h a = askEffect h image (a .answer) (a .lent) (a .bytes) (a .nonc
 
 abbrev pub Accepted : Effect → Type 0
 Accepted (host n) = ⊥
-Accepted (refuse bytes) = ⊥
+Accepted (refuse bytes kept) = ⊥
 Accepted (accept bytes change) = Unit {0}
 
 abbrev pub imageOf : Call → List ℕ

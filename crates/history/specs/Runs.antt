@@ -42,7 +42,7 @@ signFinish h image answer lent ok signature = finishBy (reading image) (h .state
 -- the answer that is awaited after a call
 abbrev pub awaitedAfter : Effect → List ℕ → List ℕ
 awaitedAfter (host n) w = w
-awaitedAfter (refuse bytes) w = w
+awaitedAfter (refuse bytes kept) w = w
 awaitedAfter (accept bytes change) w = change .answer
 
 abbrev pub awaitedFinished : Finish → List ℕ → List ℕ

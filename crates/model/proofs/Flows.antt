@@ -64,7 +64,7 @@ ask r = request (imageBytes bench) 4608 16384 r nonce
 abbrev pub finish : Bool → Feed
 finish ok = finishing (imageBytes bench) 4608 16384 ok signature
 
--- what is heard of calls on a fresh box: what is said to each, and what is to be signed at the end
+-- what is heard of calls: what is said to each, and what is to be signed at the end
 pub record Heard : Type 0 where
   pub said : List Said
   pub prefix : List ℕ
@@ -81,8 +81,8 @@ after p (x ∷ xs) = after (plainNext p x) xs
 abbrev pub signs : Plain → List Said → Heard
 signs p l = record { said = l; prefix = prefixOf (p .awaited); hashed = toHash (p .awaited) (p .A) (p .B) (p .M) }
 
-abbrev pub heard : List Feed → Heard
-heard xs = signs (after freshPlain xs) (saidFrom freshPlain xs)
+abbrev pub heard : Plain → List Feed → Heard
+heard p xs = signs (after p xs) (saidFrom p xs)
 
 -- answers, and nothing to sign; or a text to sign, and the messages to hash
 abbrev pub saying : List ℕ → Said
@@ -101,6 +101,9 @@ awaiting l text messages = record { said = map saying l; prefix = text; hashed =
 -- an ERROR in phase 2 or 3
 abbrev pub refused : ℕ → ℕ → List ℕ
 refused code extra = 0x12 ∷ 0x7F ∷ code ∷ extra ∷ []
+
+abbrev pub tooLarge : ℕ → List ℕ
+tooLarge size = refused 0x0D 0 ++ leBytes 4 size
 
 -- the first three requests and their answers; the paper's GET_CAPABILITIES has the peer's size 00 12 00 00, 4,608
 
@@ -129,8 +132,11 @@ connected peer l = map ask (getVersion ∷ getCapabilities peer ∷ negotiate �
 abbrev pub agreed : List (List ℕ) → List (List ℕ)
 agreed l = version ∷ capabilities ∷ algorithms ∷ l
 
+abbrev pub exchangedAt : ℕ → List (List ℕ)
+exchangedAt peer = getVersion ∷ version ∷ getCapabilities peer ∷ capabilities ∷ negotiate ∷ algorithms ∷ []
+
 abbrev pub exchanged : List (List ℕ)
-exchanged = getVersion ∷ version ∷ getCapabilities 4608 ∷ capabilities ∷ negotiate ∷ algorithms ∷ []
+exchanged = exchangedAt 4608
 
 -- the same three with bytes in every reserved field
 abbrev pub marked : List (List ℕ)
@@ -209,13 +215,19 @@ measurementsPrefix =
     joined (text ∷ text ∷ text ∷ text ∷ replicate 6 0 ∷ responder
     ∷ (0x6D ∷ 0x65 ∷ 0x61 ∷ 0x73 ∷ 0x75 ∷ 0x72 ∷ 0x65 ∷ 0x6D ∷ 0x65 ∷ 0x6E ∷ 0x74 ∷ 0x73 ∷ []) ∷ signing ∷ [])
 
--- calls, and what has to be heard of them
+-- calls on a box, and what has to be heard of them
 pub record Flow : Type 0 where
+  pub from : Plain
   pub calls : List Feed
   pub expected : Heard
 
+-- on a fresh box
 abbrev pub gives : List Feed → Heard → Flow
-gives calls expected = record { calls = calls; expected = expected }
+gives calls expected = record { from = freshPlain; calls = calls; expected = expected }
+
+-- a connected box whose M holds so many bytes
+abbrev pub holding : ℕ → Plain
+holding n = record { phase = 3; peer = 4608; selection = 1; A = []; B = []; M = replicate n 0; awaited = 0; answer = [] }
 
 -- "Flows on the bench", the marked lines
 abbrev pub starred : List Flow
@@ -236,7 +248,7 @@ starred =
     -- "CHALLENGE slot 8 → 12 7F 01 00"
     ∷ gives (connected 4608 (challenge 8 0 ∷ [])) (answers (agreed (refused 0x01 0 ∷ [])))
     -- "peer's size 42, CHALLENGE Param2 0 → 12 7F 0D 00 86 00 00 00"
-    ∷ gives (connected 42 (challenge 0 0 ∷ [])) (answers (agreed ((0x12 ∷ 0x7F ∷ 0x0D ∷ 0 ∷ 0x86 ∷ 0 ∷ 0 ∷ 0 ∷ []) ∷ [])))
+    ∷ gives (connected 42 (challenge 0 0 ∷ [])) (answers (agreed (tooLarge 0x86 ∷ [])))
     -- "peer's size 42, GET_MEASUREMENTS Param2 0 unsigned: 42 bytes, accepted"
     ∷ gives (connected 42 (countMeasurements ∷ [])) (answers (agreed (counted ∷ [])))
     ∷ []
@@ -272,7 +284,35 @@ others =
     (exchanged ++ (challenge 0 0 ∷ challenged [] ∷ [])))
     ∷ []
 
-pub flows : map (λ (f : Flow). heard (f .calls)) (starred ++ others) ≡ map (λ (f : Flow). f .expected) (starred ++ others)
+-- paper 02, 3: "a GET_MEASUREMENTS refused at step 7, 8 or 9 empties M"
+abbrev pub refusals : List Flow
+refusals =
+    -- step 7: there is no measurement 9
+    gives (connected 4608 (countMeasurements ∷ signMeasurements 9 ∷ signMeasurements 7 ∷ []))
+    (awaiting (agreed (counted ∷ refused 0x01 0 ∷ unsigned measurements ∷ [])) measurementsPrefix (exchanged ++ (signMeasurements 7 ∷ measurements ∷ [])))
+    -- step 8: a count that is signed has 106 bytes, with the measurement it has 145
+    ∷ gives (connected 106 (countMeasurements ∷ signMeasurements 7 ∷ signMeasurements 0 ∷ []))
+    (awaiting (agreed (counted ∷ tooLarge 145 ∷ unsigned counted ∷ [])) measurementsPrefix (exchangedAt 106 ++ (signMeasurements 0 ∷ counted ∷ [])))
+    -- step 9: M has 45 bytes left of its 7,680, and a count with its request has 46
+    ∷ record {
+      from = holding 7635;
+      calls = map ask (countMeasurements ∷ signMeasurements 7 ∷ []);
+      expected = awaiting (refused 0x05 0 ∷ unsigned measurements ∷ []) measurementsPrefix (signMeasurements 7 ∷ measurements ∷ []);
+    }
+    -- steps 1 and 5 leave M, and so does any other request
+    ∷ gives (connected 4608 (countMeasurements ∷ (0x12 ∷ 0xE0 ∷ 0 ∷ []) ∷ (0x11 ∷ 0xE0 ∷ 0 ∷ 0 ∷ []) ∷ getPortion 100 ∷ signMeasurements 7 ∷ []))
+    (awaiting (agreed (counted ∷ refused 0x01 0 ∷ refused 0x41 0 ∷ refused 0x01 0 ∷ unsigned measurements ∷ [])) measurementsPrefix
+    (exchanged ++ (countMeasurements ∷ counted ∷ signMeasurements 7 ∷ measurements ∷ [])))
+    -- B stays
+    ∷ gives (connected 4608 (getDigests ∷ signMeasurements 9 ∷ challenge 0 0 ∷ []))
+    (awaiting (agreed (digests ∷ refused 0x01 0 ∷ unsigned (challenged []) ∷ [])) challengePrefix
+    (exchanged ++ (getDigests ∷ digests ∷ challenge 0 0 ∷ challenged [] ∷ [])))
+    ∷ []
+
+abbrev pub all : List Flow
+all = starred ++ (others ++ refusals)
+
+pub flows : map (λ (f : Flow). heard (f .from) (f .calls)) all ≡ map (λ (f : Flow). f .expected) all
 unfolding pick unless framesOf identityFault slotWrong chainFault measurementFault summaryFault recordFault endFault extended readOn readAll
     reading digestSize signatureSize recordBytes recordsBytes identityBytes imageBytes chainFor maskOf measurementFor holdsOnly
     phaseFits selectionFits awaitedFits inBounds kindOf mustWait serves versionFor inPhase kindSteps firstSteps sizeSteps

@@ -42,7 +42,7 @@ pub record Room (s : State) (answerLength lentLength : ℕ) (bytes : List ℕ) (
 
 abbrev pub Ready : State → ℕ → ℕ → Effect → Type 0
 Ready s answerLength lentLength (host n) = Unit {0}
-Ready s answerLength lentLength (refuse bytes) = (messageLimit ≤ answerLength) × (length bytes ≤ 8)
+Ready s answerLength lentLength (refuse bytes kept) = (messageLimit ≤ answerLength) × (length bytes ≤ 8)
 Ready s answerLength lentLength (accept bytes change) = Room s answerLength lentLength bytes change
 
 module _ (c : Contents) (v : Valid c) (s : State) (answerLength lentLength : ℕ) (r nonce : List ℕ) where
@@ -62,7 +62,7 @@ module _ (c : Contents) (v : Valid c) (s : State) (answerLength lentLength : ℕ
   by-decision : (d : Decision) → Told (factsOf c) s answerLength lentLength (length nonce) r d → Ready s answerLength lentLength (effectOf d c s nonce r)
   unfolding effectOf pick
   by-decision (decision.Number k) z = tt
-  by-decision (decision.Error code extra) z = (z .buffer, omega arith)
+  by-decision (decision.Error step code extra) z = (z .buffer, omega arith)
   by-decision (decision.TooLarge size) z = (z .buffer, omega arith)
   by-decision decision.Version z = enough (z .0) versionBytes _ _ 8 versionBytes refl (z .1) version-length (omega arith) (omega arith)
   by-decision (decision.Capabilities peer) z =

@@ -91,7 +91,7 @@ pub record MeasurementsTold (f : Facts) (s : State) (r : List ℕ) (o : Operatio
 -- what a decision tells
 abbrev pub Told : Facts → State → ℕ → ℕ → ℕ → List ℕ → Decision → Type 0
 Told f s answerLength lentLength nonce r (decision.Number k) = Unit {0}
-Told f s answerLength lentLength nonce r (decision.Error code extra) = Called f s answerLength lentLength nonce
+Told f s answerLength lentLength nonce r (decision.Error step code extra) = Called f s answerLength lentLength nonce
 Told f s answerLength lentLength nonce r (decision.TooLarge size) = Called f s answerLength lentLength nonce
 Told f s answerLength lentLength nonce r decision.Version = Called f s answerLength lentLength nonce × (headerLength ≤ length r)
 Told f s answerLength lentLength nonce r (decision.Capabilities peer) = Called f s answerLength lentLength nonce × CapabilitiesTold s r peer

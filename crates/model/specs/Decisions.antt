@@ -3,7 +3,7 @@ use mathlib.Core.List.{List}
 use Prim.Native.Nat.{ℕ}
 use lib.Dec.{ltb, eqb}
 use Rattle.wire.specs.Pick.{pick}
-use Rattle.model.specs.Limits.{messageLimit, transcriptLength, nonceLength, unsupportedRequest, shortAnswer, shortTranscript, wrongNonce, wrongState}
+use Rattle.model.specs.Limits.{messageLimit, transcriptLength, nonceLength, codeStep, unsupportedRequest, shortAnswer, shortTranscript, wrongNonce, wrongState}
 use Rattle.model.specs.Facts.{Facts}
 use Rattle.model.specs.State.{inBounds}
 use Rattle.model.specs.Steps.{codeByte, firstSteps}
@@ -28,7 +28,7 @@ lastSteps f s r kind.Digests = digestsDecision f s
 lastSteps f s r kind.Certificate = certificateDecision f s r
 lastSteps f s r kind.Challenge = challengeDecision f s r
 lastSteps f s r kind.Measurements = measurementsDecision f s r
-lastSteps f s r kind.Unsupported = decision.Error unsupportedRequest (codeByte r)
+lastSteps f s r kind.Unsupported = decision.Error codeStep unsupportedRequest (codeByte r)
 
 -- the nine steps
 unfoldable pub requestDecision : Facts → State → List ℕ → Decision

@@ -1,16 +1,17 @@
 -- What a decision does, alike for the box and the plain box: an answer, and what changes.
-use mathlib.Core.Bool.{Bool, true, false}
+use mathlib.Core.Bool.{Bool, true, false, not, _&&_}
 use mathlib.Core.List.{List, [], _∷_, _++_}
 use Prim.Native.Nat.{ℕ, _+_}
 use lib.ListN.{length, take, replicate}
-use lib.Dec.{ltb}
+use lib.Dec.{ltb, leb, eqb}
 use Rattle.wire.specs.Bytes.{leBytes}
 use Rattle.wire.specs.Pick.{pick}
 use Rattle.image.specs.Sizes.{signatureSize}
 use Rattle.image.specs.Contents.{Contents}
 use Rattle.image.specs.Reading.{Result, number, found}
-use Rattle.model.specs.Limits.{headerLength, capabilitiesLayout, certificateLayout, challengeLayout, version10, version12, responseTooLarge, awaitsChallenge, awaitsMeasurements}
+use Rattle.model.specs.Limits.{headerLength, capabilitiesLayout, certificateLayout, challengeLayout, version10, version12, fieldsStep, sizeStep, roomStep, responseTooLarge, awaitsChallenge, awaitsMeasurements}
 use Rattle.model.specs.Facts.{factsOf}
+use Rattle.model.specs.Steps.{codeByte}
 use Rattle.model.specs.Version.{versionBytes}
 use Rattle.model.specs.Capabilities.{capabilitiesBytes}
 use Rattle.model.specs.Algorithms.{algorithmsBytes}
@@ -67,6 +68,14 @@ keeps inA k = keptBy k .A
 keeps inB k = keptBy k .B
 keeps inM k = keptBy k .M
 
+-- Paper 02, 3: "a GET_MEASUREMENTS refused at step 7, 8 or 9 empties M"
+abbrev pub emptiesM : ℕ → ℕ → Bool
+emptiesM step code = eqb code 0xE0 && leb fieldsStep step && leb step roomStep
+
+-- what a refusal leaves, by its step and the request's byte 1
+abbrev pub keptByRefusal : ℕ → ℕ → Kept
+keptByRefusal step code = record { A = true; B = true; M = not (emptiesM step code) }
+
 -- An accepted request's change: the new numbers, the kind, what is appended, and the answer whose signature is awaited (0: none).
 pub record Change : Type 0 where
   pub phase : ℕ
@@ -79,7 +88,7 @@ pub record Change : Type 0 where
 
 pub data Effect : Type 0 where
   host : ℕ → Effect
-  refuse : List ℕ → Effect
+  refuse : List ℕ → Kept → Effect
   accept : List ℕ → Change → Effect
 
 -- "A refusal writes an ERROR: version, 0x7F, code, data. Version is 0x10 in phases 0 and 1, else 0x12."
@@ -107,8 +116,8 @@ measured c s r (signer.Slot k) bytes = unsigned kind.Measurements s (layoutOf (s
 
 unfoldable pub effectOf : Decision → Contents → State → List ℕ → List ℕ → Effect
 effectOf (decision.Number n) c s nonce r = host n
-effectOf (decision.Error code extra) c s nonce r = refuse (errorBytes s code extra)
-effectOf (decision.TooLarge size) c s nonce r = refuse (errorBytes s responseTooLarge 0 ++ leBytes 4 size)
+effectOf (decision.Error step code extra) c s nonce r = refuse (errorBytes s code extra) (keptByRefusal step (codeByte r))
+effectOf (decision.TooLarge size) c s nonce r = refuse (errorBytes s responseTooLarge 0 ++ leBytes 4 size) (keptByRefusal sizeStep (codeByte r))
 effectOf decision.Version c s nonce r = answered kind.Version 1 0 0 headerLength r versionBytes
 effectOf (decision.Capabilities peer) c s nonce r = answered kind.Capabilities 2 peer 0 capabilitiesLayout r (capabilitiesBytes c)
 effectOf (decision.Algorithms length selection) c s nonce r = answered kind.Algorithms 3 (s .peer) selection length r (algorithmsBytes c selection)
@@ -127,10 +136,10 @@ effectBy (found c) s answerLength lentLength r nonce = effectOf (decisionOf (fac
 -- what the host is told, and the answer's bytes
 abbrev pub replyOf : Effect → Reply
 replyOf (host n) = reply.Number n
-replyOf (refuse bytes) = reply.Answer (length bytes)
+replyOf (refuse bytes kept) = reply.Answer (length bytes)
 replyOf (accept bytes change) = reply.Answer (length bytes)
 
 abbrev pub bytesOf : Effect → List ℕ
 bytesOf (host n) = []
-bytesOf (refuse bytes) = bytes
+bytesOf (refuse bytes kept) = bytes
 bytesOf (accept bytes change) = bytes

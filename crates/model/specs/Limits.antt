@@ -89,6 +89,44 @@ version10 = 0x10
 abbrev pub version12 : ℕ
 version12 = 0x12
 
+-- "A request, checked in this order": the steps, each with its test
+
+-- "under 4 bytes"
+abbrev pub shortStep : ℕ
+shortStep = 1
+
+-- "over 4,608 bytes"
+abbrev pub longStep : ℕ
+longStep = 2
+
+-- "signature awaited and code not 0x84"
+abbrev pub busyStep : ℕ
+busyStep = 3
+
+-- "code not served, or 0xE0 with no kind 3"
+abbrev pub codeStep : ℕ
+codeStep = 4
+
+-- "version byte not 0x10 for GET_VERSION, not 0x12 for others"
+abbrev pub versionStep : ℕ
+versionStep = 5
+
+-- "wrong phase"
+abbrev pub phaseStep : ℕ
+phaseStep = 6
+
+-- "too short for its layout, or a field wrong"
+abbrev pub fieldsStep : ℕ
+fieldsStep = 7
+
+-- "answer, signature included, over the peer's size"
+abbrev pub sizeStep : ℕ
+sizeStep = 8
+
+-- "no transcript room for the request and the answer without signature"
+abbrev pub roomStep : ℕ
+roomStep = 9
+
 -- ERROR codes
 abbrev pub invalidRequest : ℕ
 invalidRequest = 0x01

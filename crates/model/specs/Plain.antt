@@ -7,7 +7,7 @@ use lib.Dec.{eqb}
 use Rattle.wire.specs.Pick.{pick}
 use Rattle.image.specs.Reading.{reading}
 use Rattle.model.specs.Limits.{awaitsChallenge}
-use Rattle.model.specs.Effects.{Part, inA, inB, inM, partFor, keeps, Change, Effect, host, refuse, accept, effectBy, replyOf, bytesOf}
+use Rattle.model.specs.Effects.{Part, inA, inB, inM, partFor, Kept, keeps, Change, Effect, host, refuse, accept, effectBy, replyOf, bytesOf}
 use Rattle.model.specs.Signing.{prefixOf, toHash, finishBy, finishReply, finishedBytes}
 use Rattle.model.specs.declared.State.{State}
 use Rattle.model.specs.declared.Reply.{Reply}
@@ -68,10 +68,24 @@ changed c p = record {
   answer = c .answer;
 }
 
--- "Refused: .. nothing changes. Accepted request: answer and changes by its rules"
+-- a refusal keeps or empties each part, and leaves all else
+abbrev pub refused : Kept → Plain → Plain
+refused kept p = record {
+  phase = p .phase;
+  peer = p .peer;
+  selection = p .selection;
+  A = pick (kept .A) (p .A) [];
+  B = pick (kept .B) (p .B) [];
+  M = pick (kept .M) (p .M) [];
+  awaited = p .awaited;
+  answer = p .answer;
+}
+
+-- "Refused: the table's number or the step's ERROR", which changes nothing but what paper 02 says. "Accepted request: answer and changes by
+-- its rules"
 abbrev pub plainAfter : Effect → Plain → Plain
 plainAfter (host n) p = p
-plainAfter (refuse bytes) p = p
+plainAfter (refuse bytes kept) p = refused kept p
 plainAfter (accept bytes change) p = changed change p
 
 -- "B (or M) is emptied, nothing is awaited"

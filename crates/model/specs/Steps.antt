@@ -5,7 +5,7 @@ use Prim.Native.Nat.{ℕ}
 use lib.ListN.{length, getD}
 use lib.Dec.{ltb, eqb}
 use Rattle.wire.specs.Pick.{pick}
-use Rattle.model.specs.Limits.{messageLimit, headerLength, version10, version12, invalidRequest, busy, unexpectedRequest, unspecified, unsupportedRequest, requestTooLarge, versionMismatch}
+use Rattle.model.specs.Limits.{messageLimit, headerLength, version10, version12, shortStep, longStep, busyStep, codeStep, versionStep, phaseStep, fieldsStep, roomStep, invalidRequest, busy, unexpectedRequest, unspecified, unsupportedRequest, requestTooLarge, versionMismatch}
 use Rattle.model.specs.Facts.{Facts}
 use Rattle.model.specs.declared.State.{State}
 use Rattle.model.specs.declared.Kind.{Kind}
@@ -76,31 +76,33 @@ inPhase s kind.Challenge = eqb (s .phase) 3
 inPhase s kind.Measurements = pick (eqb (s .phase) 3) (eqb (s .selection) 1) false
 inPhase s kind.Unsupported = false
 
+-- A refusal is a row of the paper's table: step, code, data.
+
 -- steps 4–6, and what follows of a kind that passed them
 unfoldable pub kindSteps : Facts → State → List ℕ → Kind → Decision → Decision
 kindSteps f s r k next =
     pick (serves f k)
     (pick (eqb (versionByte r) (versionFor k))
     (pick (inPhase s k) next
-    (Error unexpectedRequest 0))
-    (Error versionMismatch 0))
-    (Error unsupportedRequest (codeByte r))
+    (Error phaseStep unexpectedRequest 0))
+    (Error versionStep versionMismatch 0))
+    (Error codeStep unsupportedRequest (codeByte r))
 
 -- steps 1–6
 unfoldable pub firstSteps : Facts → State → List ℕ → (Kind → Decision) → Decision
 firstSteps f s r next =
-    pick (ltb (length r) headerLength) (Error invalidRequest 0)
-    (pick (ltb messageLimit (length r)) (Error requestTooLarge 0)
-    (pick (mustWait s (codeByte r)) (Error busy 0)
+    pick (ltb (length r) headerLength) (Error shortStep invalidRequest 0)
+    (pick (ltb messageLimit (length r)) (Error longStep requestTooLarge 0)
+    (pick (mustWait s (codeByte r)) (Error busyStep busy 0)
     (kindSteps f s r (kindOf (codeByte r)) (next (kindOf (codeByte r))))))
 
 -- step 7 refuses with this
 abbrev pub invalid : Decision
-invalid = Error invalidRequest 0
+invalid = Error fieldsStep invalidRequest 0
 
 -- steps 8 and 9: an answer of so many bytes, its signature included, against the peer's size; what is appended against the room of its part
 unfoldable pub sizeSteps : State → ℕ → ℕ → ℕ → Decision → Decision
 sizeSteps s size used limit next =
     pick (ltb (s .peer) size) (TooLarge size)
-    (pick (ltb limit used) (Error unspecified 0)
+    (pick (ltb limit used) (Error roomStep unspecified 0)
     next)

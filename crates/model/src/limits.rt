@@ -49,6 +49,24 @@ pub const VERSION_10: u8 = 0x10;
 
 pub const VERSION_12: u8 = 0x12;
 
+pub const SHORT_STEP: u8 = 1;
+
+pub const LONG_STEP: u8 = 2;
+
+pub const BUSY_STEP: u8 = 3;
+
+pub const CODE_STEP: u8 = 4;
+
+pub const VERSION_STEP: u8 = 5;
+
+pub const PHASE_STEP: u8 = 6;
+
+pub const FIELDS_STEP: u8 = 7;
+
+pub const SIZE_STEP: u8 = 8;
+
+pub const ROOM_STEP: u8 = 9;
+
 pub const INVALID_REQUEST: u8 = 0x01;
 
 pub const BUSY: u8 = 0x03;

@@ -16,6 +16,7 @@ use model::limits::CHALLENGE_LAYOUT;
 use model::limits::HEADER_LENGTH;
 use model::limits::M_START;
 use model::limits::RESPONSE_TOO_LARGE;
+use model::limits::SIZE_STEP;
 use model::limits::VERSION_10;
 use model::limits::VERSION_12;
 ghost use mathlib.Core.Path.{_≡_};
@@ -39,21 +40,29 @@ fn error_version(s: State) -> u8
     if s.phase < 2 { VERSION_10 } else { VERSION_12 }
 }
 
-pub(crate) fn refuse(s: State, answer: &mut [u8], code: u8, extra: u8) -> Outcome
-    ensures { λ o. ⌜ ((c : Contents) (t nonce r : List ℕ) → Responded (effectOf (decision.Error code extra) c s nonce r) s t t (now (answer .entry)) (now (answer .exit)) o) ⌝ }
+pub(crate) fn refuse(
+    s: State,
+    answer: &mut [u8],
+    request: &[u8],
+    step: u8,
+    code: u8,
+    extra: u8,
+) -> Outcome
+    ensures { λ o. ⌜ ((c : Contents) (t nonce : List ℕ) → Responded (effectOf (decision.Error step code extra) c s nonce (now (request .entry))) s t t (now (answer .entry)) (now (answer .exit)) o) ⌝ }
 {
     let version = error_version(s);
     let m = [version, 0x7F, code, extra];
     wire::copy_into(answer, 0, &m);
+    let state = state::refused(s, step, wire::byte_at(request, 1));
     Outcome {
         reply: Reply::Answer(4),
-        state: s,
+        state,
     }
 }
 
 // The ERROR that says how large the answer would be.
-pub(crate) fn refuse_large(s: State, answer: &mut [u8], size: usize) -> Outcome
-    ensures { λ o. ⌜ ((c : Contents) (t nonce r : List ℕ) → Responded (effectOf (decision.TooLarge size) c s nonce r) s t t (now (answer .entry)) (now (answer .exit)) o) ⌝ }
+pub(crate) fn refuse_large(s: State, answer: &mut [u8], request: &[u8], size: usize) -> Outcome
+    ensures { λ o. ⌜ ((c : Contents) (t nonce : List ℕ) → Responded (effectOf (decision.TooLarge size) c s nonce (now (request .entry))) s t t (now (answer .entry)) (now (answer .exit)) o) ⌝ }
 {
     let version = error_version(s);
     let m = [
@@ -67,9 +76,10 @@ pub(crate) fn refuse_large(s: State, answer: &mut [u8], size: usize) -> Outcome
         (size / 256 / 256 / 256 % 256) as u8,
     ];
     wire::copy_into(answer, 0, &m);
+    let state = state::refused(s, SIZE_STEP, wire::byte_at(request, 1));
     Outcome {
         reply: Reply::Answer(8),
-        state: s,
+        state,
     }
 }
 

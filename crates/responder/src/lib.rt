@@ -52,8 +52,15 @@ fn answer_request(
             reply: Reply::Number(number),
             state: s,
         },
-        Decision::Error { code, extra } => answer::refuse(s, answer, code, extra),
-        Decision::TooLarge { size } => answer::refuse_large(s, answer, size),
+        Decision::Error { step, code, extra } => answer::refuse(
+            s,
+            answer,
+            request,
+            step,
+            code,
+            extra,
+        ),
+        Decision::TooLarge { size } => answer::refuse_large(s, answer, request, size),
         Decision::Version => answer::accept_version(transcript, answer, request),
         Decision::Capabilities { peer } => answer::accept_capabilities(
             ix,

@@ -33,7 +33,7 @@ use Rattle.image.specs.declared.SlotNumber.{SlotNumber}
 -- a number of the table, or no number
 pub data Few : Decision → Type 0 where
   few-number : (k : ℕ) → k ≤ wrongSignature → Few (decision.Number k)
-  few-error : (code extra : ℕ) → Few (decision.Error code extra)
+  few-error : (step code extra : ℕ) → Few (decision.Error step code extra)
   few-large : (size : ℕ) → Few (decision.TooLarge size)
   few-version : Few decision.Version
   few-capabilities : (peer : ℕ) → Few (decision.Capabilities peer)

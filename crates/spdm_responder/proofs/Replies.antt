@@ -29,13 +29,13 @@ use Rattle.spdm_responder.proofs.Numbers.{Few, few-number, few-error, f
 
 abbrev Numbered : Effect → Type 0
 Numbered (host n) = n ≤ wrongSignature
-Numbered (refuse bytes) = Unit {0}
+Numbered (refuse bytes kept) = Unit {0}
 Numbered (accept bytes change) = Unit {0}
 
 by-decision : (c : Contents) (s : State) (nonce r : List ℕ) (d : Decision) → Few d → Numbered (effectOf d c s nonce r)
 unfolding effectOf
 by-decision c s nonce r _ (few-number k h) = h
-by-decision c s nonce r _ (few-error code extra) = tt
+by-decision c s nonce r _ (few-error step code extra) = tt
 by-decision c s nonce r _ (few-large size) = tt
 by-decision c s nonce r _ few-version = tt
 by-decision c s nonce r _ (few-capabilities peer) = tt
@@ -54,7 +54,7 @@ module _ (s : State) (answerLength lentLength : ℕ) (r nonce : List ℕ) where
 
   by-effect : (e : Effect) → Numbered e → Ready s answerLength lentLength e → Fits (replyOf e)
   by-effect (host n) h w = h
-  by-effect (refuse bytes) h w = omega (arith, w .1)
+  by-effect (refuse bytes kept) h w = omega (arith, w .1)
   by-effect (accept bytes change) h w = w .short
 
   pub asked-fits : (b : List ℕ) → Bytes b → Fits (replyOf (effectBy (reading b) s answerLength lentLength r nonce))

@@ -1,20 +1,24 @@
-// The connection state that the host holds: the fresh one, and the bounds of any that it hands in (number 14).
+// The connection state that the host holds: the fresh one, the bounds of any that it hands in (number 14), and what a refusal leaves.
 use image::Index;
 use model::State;
 use model::limits::A_LIMIT;
 use model::limits::AWAITS_MEASUREMENTS;
 use model::limits::B_LIMIT;
 use model::limits::CAPABILITIES_USED;
+use model::limits::FIELDS_STEP;
 use model::limits::M_LIMIT;
 use model::limits::MESSAGE_LIMIT;
 use model::limits::PEER_LEAST;
 use model::limits::PHASE_LIMIT;
+use model::limits::ROOM_STEP;
 use model::limits::VERSION_USED;
 ghost use mathlib.Core.Path.{_≡_};
 ghost use mathlib.Core.List.{List};
 ghost use Prim.Native.Nat.{ℕ};
 ghost use Rattle.model.specs.State.{fresh as freshState, holdsOnly, phaseFits, selectionFits, awaitedFits, inBounds};
 ghost use Rattle.model.specs.Facts.{factsAt};
+ghost use Rattle.model.specs.Effects.{keptByRefusal};
+ghost use Rattle.model.specs.Box.{refusedState};
 
 // The state of a connection on which nothing was said yet.
 pub fn fresh() -> State
@@ -119,4 +123,29 @@ pub fn in_bounds(ix: Index, s: State) -> bool
         return false;
     }
     awaited_fits(ix, s)
+}
+
+// What a refusal leaves, by its step and the request's code: a GET_MEASUREMENTS that is refused at step 7, 8 or 9 empties M.
+pub fn refused(s: State, step: u8, code: u8) -> State
+    ensures { λ r. ⌜ r ≡ refusedState (keptByRefusal step code) s ⌝ }
+{
+    if code != 0xE0 {
+        return s;
+    }
+    if step < FIELDS_STEP {
+        return s;
+    }
+    if ROOM_STEP < step {
+        return s;
+    }
+    State {
+        phase: s.phase,
+        peer: s.peer,
+        selection: s.selection,
+        a: s.a,
+        b: s.b,
+        m: 0,
+        awaited: s.awaited,
+        answer: s.answer,
+    }
 }

@@ -113,13 +113,13 @@ same-length : tie.Need-same-length
 same-length c = search needs
 
 returns-2 : tie.Need-returns-2
-returns-2 c = λ k rd. settled (c .before .before .before .before .before .before .before) k rd _ (c .before .before .before .before .before .d2 .given .1) _ _ _ (c .before .before .refuse .ensures k _ _ _)
+returns-2 c = λ k rd. settled (c .before .before .before .before .before .before .before) k rd _ (c .before .before .before .before .before .d2 .given .1) _ _ _ (c .before .before .refuse .ensures k _ _)
 
 same-length-2 : tie.Need-same-length-2
 same-length-2 c = search needs
 
 returns-3 : tie.Need-returns-3
-returns-3 c = λ k rd. settled (c .before .before .before .before .before .before .before) k rd _ (c .before .before .before .before .before .d3 .given .1) _ _ _ (c .before .before .refuse-large .ensures k _ _ _)
+returns-3 c = λ k rd. settled (c .before .before .before .before .before .before .before) k rd _ (c .before .before .before .before .before .d3 .given .1) _ _ _ (c .before .before .refuse-large .ensures k _ _)
 
 same-length-3 : tie.Need-same-length-3
 same-length-3 c = search needs

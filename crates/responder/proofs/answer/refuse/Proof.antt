@@ -1,4 +1,4 @@
--- Four bytes are copied, and nothing else changes. Assumes nothing.
+-- Four bytes are copied, and the state is what a refusal leaves. Assumes nothing.
 use mathlib.Core.Path.{refl}
 use Rattle.model.specs.Effects.{effectOf}
 use borrow.Author.Needs.{needs}
@@ -14,12 +14,23 @@ slice-aggregate-copy-into c = search needs
 copy-into-requires : tie.Need-copy-into-requires
 copy-into-requires c κs = search needs
 
+byte-at-requires : tie.Need-byte-at-requires
+byte-at-requires c κs = search needs
+
+refused-requires : tie.Need-refused-requires
+refused-requires c κs = search needs
+
 same-length : tie.Need-same-length
 same-length c = search needs
 
 returns : tie.Need-returns
 unfolding effectOf
-returns c = λ k t nonce r. record { reply = refl; state = refl; answer = rw (← c .before .before .before .before .before .error-version .ensures) (c .before .before .copy-into .ensures); transcript = refl }
+returns c = λ k t nonce. record {
+  reply = refl;
+  state = rw (← c .before .byte-at .ensures) (c .refused .ensures);
+  answer = rw (← c .before .before .before .before .before .before .before .error-version .ensures) (c .before .before .before .before .copy-into .ensures);
+  transcript = refl;
+}
 
 pub refuse-spec : {M : Type 1} → statement M
 refuse-spec =
@@ -28,5 +39,7 @@ refuse-spec =
     error-version-requires
     slice-aggregate-copy-into
     copy-into-requires
+    byte-at-requires
+    refused-requires
     same-length
     returns)

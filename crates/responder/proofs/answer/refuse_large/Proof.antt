@@ -1,4 +1,4 @@
--- Eight bytes are copied, and nothing else changes. Assumes nothing.
+-- Eight bytes are copied, and the state is what a refusal leaves. Assumes nothing.
 use mathlib.Core.Path.{refl}
 use Rattle.model.specs.Effects.{effectOf}
 use borrow.Author.Needs.{needs}
@@ -8,17 +8,17 @@ use Rattle.responder.proofs.answer.refuse_large.Tie as tie
 error-version-requires : tie.Need-error-version-requires
 error-version-requires c κs = search needs
 
-cast-t7 : tie.Need-cast-t7
-cast-t7 c = search needs
+cast-refused : tie.Need-cast-refused
+cast-refused c = search needs
 
-cast-t10 : tie.Need-cast-t10
-cast-t10 c = search needs
+cast-t12 : tie.Need-cast-t12
+cast-t12 c = search needs
 
-cast-t14 : tie.Need-cast-t14
-cast-t14 c = search needs
+cast-t16 : tie.Need-cast-t16
+cast-t16 c = search needs
 
-cast-t19 : tie.Need-cast-t19
-cast-t19 c = search needs
+cast-t21 : tie.Need-cast-t21
+cast-t21 c = search needs
 
 slice-aggregate-copy-into : tie.Need-slice-aggregate-copy-into
 slice-aggregate-copy-into c = search needs
@@ -26,23 +26,36 @@ slice-aggregate-copy-into c = search needs
 copy-into-requires : tie.Need-copy-into-requires
 copy-into-requires c κs = search needs
 
+byte-at-requires : tie.Need-byte-at-requires
+byte-at-requires c κs = search needs
+
+refused-requires : tie.Need-refused-requires
+refused-requires c κs = search needs
+
 same-length : tie.Need-same-length
 same-length c = search needs
 
 returns : tie.Need-returns
 unfolding effectOf
-returns c = λ k t nonce r. record { reply = refl; state = refl; answer = rw (← c .before .before .before .before .before .error-version .ensures) (c .before .before .copy-into .ensures); transcript = refl }
+returns c = λ k t nonce. record {
+  reply = refl;
+  state = rw (← c .before .byte-at .ensures) (c .refused .ensures);
+  answer = rw (← c .before .before .before .before .before .before .before .error-version .ensures) (c .before .before .before .before .copy-into .ensures);
+  transcript = refl;
+}
 
 pub refuse-large-spec : {M : Type 1} → statement M
 refuse-large-spec =
     tie.close
     (tie.spec
     error-version-requires
-    cast-t7
-    cast-t10
-    cast-t14
-    cast-t19
+    cast-refused
+    cast-t12
+    cast-t16
+    cast-t21
     slice-aggregate-copy-into
     copy-into-requires
+    byte-at-requires
+    refused-requires
     same-length
     returns)

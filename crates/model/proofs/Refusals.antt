@@ -1,0 +1,117 @@
+-- Which refusals empty M, told by what a requester has in hand: its request and the ERROR's code. Of the nine steps only 1 and 7 have one code,
+-- and only step 1 refuses a request that is shorter than a header; so the step can be read off. By a walk over the steps in their order.
+-- Assumes nothing.
+use mathlib.Core.Path.{_≡_, refl}
+use mathlib.Core.Bool.{Bool, true, false, not, _&&_, _||_, and-false}
+use mathlib.Core.List.{List}
+use Prim.Native.Nat.{ℕ}
+use lib.ListN.{length, getD}
+use lib.Dec.{ltb, eqb}
+use borrow.Author.Tests.{eqb-true}
+use Rattle.wire.specs.Pick.{pick}
+use Rattle.wire.proofs.Picks.{pick-case}
+use Rattle.image.specs.Contents.{Contents}
+use Rattle.model.specs.Limits.{headerLength, invalidRequest, unspecified, responseTooLarge}
+use Rattle.model.specs.Facts.{Facts}
+use Rattle.model.specs.Steps.{kindOf, codeByte, kindSteps, firstSteps, sizeSteps}
+use Rattle.model.specs.Measurements.{measurementsSized, operationStep, measurementsBy, measurementsDecision}
+use Rattle.model.specs.Decisions.{lastSteps, requestDecision}
+use Rattle.model.specs.Effects.{emptiesM, Effect, host, refuse, accept, effectOf}
+use Rattle.model.specs.declared.State.{State}
+use Rattle.model.specs.declared.Kind.the-variants as kind
+use Rattle.model.specs.declared.Operation.{Operation}
+use Rattle.model.specs.declared.Signer.{Signer}
+use Rattle.model.specs.declared.Signer.the-variants as signer
+use Rattle.model.specs.declared.Decision.{Decision}
+use Rattle.model.specs.declared.Decision.the-variants as decision
+
+-- the codes of steps 7, 8 and 9: "0x01 at step 7 and not at step 1; 0x0D; 0x05"
+abbrev pub lateCode : ℕ → Bool
+lateCode code = eqb code invalidRequest || eqb code responseTooLarge || eqb code unspecified
+
+-- "byte 1 is 0xE0 and the step that refuses is 7, 8 or 9"
+abbrev pub seenEmptied : List ℕ → ℕ → Bool
+seenEmptied r code = eqb (codeByte r) 0xE0 && not (ltb (length r) headerLength) && lateCode code
+
+-- a refusal leaves A and B, and M unless a requester sees it emptied
+abbrev pub LeavesAsSeen : List ℕ → Effect → Type 0
+LeavesAsSeen r (host n) = Unit {0}
+LeavesAsSeen r (refuse bytes kept) = kept ≡ record { A = true; B = true; M = not (seenEmptied r (getD bytes 2 0)) }
+LeavesAsSeen r (accept bytes change) = Unit {0}
+
+module _ (f : Facts) (c : Contents) (s : State) (r nonce : List ℕ) where
+  abbrev P : Decision → Type 0
+  P d = LeavesAsSeen r (effectOf d c s nonce r)
+
+  accepted : (o : Operation) (g : Signer) → P (decision.Measurements o g)
+  unfolding effectOf
+  accepted o signer.Nobody = tt
+  accepted o (signer.Slot k) = tt
+
+  -- any other request leaves M, whatever it comes to
+  other : eqb (codeByte r) 0xE0 ≡ false → (d : Decision) → P d
+  unfolding effectOf
+  other e (decision.Number k) = tt
+  other e (decision.Error step code extra) = rw e
+  other e (decision.TooLarge size) = rw e
+  other e decision.Version = tt
+  other e (decision.Capabilities peer) = tt
+  other e (decision.Algorithms layout selection) = tt
+  other e decision.Digests = tt
+  other e (decision.Certificate slot offset portion remainder) = tt
+  other e (decision.Challenge slot summary) = tt
+  other e (decision.Measurements operation signer) = accepted operation signer
+
+  module _ (e : codeByte r ≡ 0xE0) where
+    -- step 1, for what is shorter than a header
+    short : (step code extra : ℕ) → emptiesM step 0xE0 ≡ false → ltb (length r) headerLength ≡ true → P (decision.Error step code extra)
+    unfolding effectOf
+    short step code extra k l = rw (e, k, l)
+
+    -- steps 2 to 6 have codes of their own
+    early : (step code extra : ℕ) → emptiesM step 0xE0 ≡ false → lateCode code ≡ false → P (decision.Error step code extra)
+    unfolding effectOf
+    early step code extra k n = rw (e, k, n, and-false)
+
+    module _ (l : ltb (length r) headerLength ≡ false) where
+      late : (step code extra : ℕ) → emptiesM step 0xE0 ≡ true → lateCode code ≡ true → P (decision.Error step code extra)
+      unfolding effectOf
+      late step code extra k n = rw (e, k, l, n)
+
+      large : (size : ℕ) → P (decision.TooLarge size)
+      unfolding effectOf
+      large size = rw (e, l)
+
+      -- steps 7 to 9 of GET_MEASUREMENTS
+      last : P (measurementsDecision f s r)
+      unfolding measurementsDecision measurementsBy operationStep measurementsSized sizeSteps
+      last =
+          pick-case P _ _ _ (λ _. late _ _ _ refl refl) (λ _.
+          pick-case P _ _ _ (λ _.
+          pick-case P _ _ _ (λ _.
+          pick-case P _ _ _ (λ _. large _) (λ _.
+          pick-case P _ _ _ (λ _. late _ _ _ refl refl) (λ _. accepted _ _)))
+          (λ _. late _ _ _ refl refl)) (λ _. late _ _ _ refl refl))
+
+    is-measurements : kindOf (codeByte r) ≡ kind.Measurements
+    unfolding kindOf pick
+    is-measurements = rw e
+
+    steps : P (requestDecision f s r)
+    unfolding requestDecision firstSteps kindSteps lastSteps
+    steps =
+        pick-case P _ _ _ (λ l. short _ _ _ refl l) (λ l.
+        pick-case P _ _ _ (λ _. early _ _ _ refl refl) (λ _.
+        pick-case P _ _ _ (λ _. early _ _ _ refl refl) (λ _.
+        rw is-measurements (pick-case P _ _ _ (λ _.
+        pick-case P _ _ _ (λ _.
+        pick-case P _ _ _ (λ _. last l)
+        (λ _. early _ _ _ refl refl)) (λ _. early _ _ _ refl refl)) (λ _. early _ _ _ refl refl)))))
+
+  -- "Which requests this concerns": of every request that is refused, A and B stay, and M stays unless it is seen emptied
+  pub emptied-as-seen : P (requestDecision f s r)
+  emptied-as-seen = by-code (eqb (codeByte r) 0xE0) refl
+    where
+      by-code : (b : Bool) → eqb (codeByte r) 0xE0 ≡ b → P (requestDecision f s r)
+      by-code true e = steps (eqb-true _ _ e)
+      by-code false e = other e _
