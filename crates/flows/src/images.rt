@@ -1,5 +1,5 @@
 // The images that the flows run on, put together record by record. All have CTExponent 14, SHA-256 and P-256.
-use vectors::put;
+use report::put;
 
 // Bytes that go up by one, modulo 256.
 fn put_rising(out: &mut [u8], at: usize, first: u8, count: u16) -> usize {

@@ -18,13 +18,13 @@ pub fn print_number(n: u64) {
 pub fn print_sum(bytes: &[u8]) {
     print_number(bytes.len() as u64);
     print(b" bytes, CRC-32 ");
-    io::print_hex(STDOUT_FILENO, vectors::crc32(bytes) as u64, 8);
+    io::print_hex(STDOUT_FILENO, report::crc32(bytes) as u64, 8);
 }
 
 // Bytes in hex; of many, the first, and the sum of all.
 pub fn print_bytes(bytes: &[u8]) {
     let mut text = [0u8; HEX];
-    let end = vectors::put_hex(&mut text, 0, wire::part_of(bytes, 0, SHOWN));
+    let end = report::put_hex(&mut text, 0, wire::part_of(bytes, 0, SHOWN));
     print(wire::part_of(&text, 0, end));
     if SHOWN < bytes.len() {
         print(b".. (");

@@ -55,11 +55,11 @@ fn make(text: &[u8], step: usize, image: &mut [u8]) -> Written
 // What is written, in hex: the image, or the number in decimal.
 fn put_written(given: &mut [u8], image: &[u8], written: Written) -> usize {
     match written {
-        Written::Image(n) => vectors::put_hex(given, 0, wire::part_of(image, 0, n)),
+        Written::Image(n) => report::put_hex(given, 0, wire::part_of(image, 0, n)),
         Written::Refused(number) => {
             let mut digits = [0u8; DIGITS];
-            let n = vectors::put_decimal(&mut digits, 0, number as u64);
-            vectors::put_hex(given, 0, wire::part_of(&digits, 0, n))
+            let n = report::put_decimal(&mut digits, 0, number as u64);
+            report::put_hex(given, 0, wire::part_of(&digits, 0, n))
         }
     }
 }

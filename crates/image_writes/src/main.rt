@@ -94,7 +94,7 @@ fn take_record(
     let body = wire::part_of(&space, 0, n);
     kinds[i] = kind as u8;
     lengths[i] = body.len();
-    Taken::Until(vectors::put(bodies, at, body))
+    Taken::Until(report::put(bodies, at, body))
 }
 
 // kind:body,kind:body,..: the records of a line.
@@ -150,20 +150,20 @@ fn put_changed(text: &mut [u8], at: usize, out: &[u8], n: usize) -> usize {
     ) {
         return at;
     }
-    vectors::put(text, at, b" changed")
+    report::put(text, at, b" changed")
 }
 
 // What the writer gave, as the vectors have it.
 fn put_written(text: &mut [u8], out: &[u8], written: Written) -> usize {
     match written {
         Written::Image(n) => {
-            let image = vectors::put(text, 0, b"0 ");
-            let end = vectors::put_hex(text, image, wire::part_of(out, 0, n));
+            let image = report::put(text, 0, b"0 ");
+            let end = report::put_hex(text, image, wire::part_of(out, 0, n));
             put_changed(text, end, out, n)
         }
         Written::Refused(number) => {
-            let space = vectors::put_decimal(text, 0, number as u64);
-            let end = vectors::put(text, space, b" -");
+            let space = report::put_decimal(text, 0, number as u64);
+            let end = report::put(text, space, b" -");
             put_changed(text, end, out, 0)
         }
     }
@@ -174,7 +174,7 @@ fn put_result(text: &mut [u8], line: &[u8]) -> usize {
     let first = vectors::decimal(vectors::word(line, 0));
     let room = vectors::decimal(vectors::word(line, 1));
     if 255 < first {
-        return vectors::put(text, 0, b"no first byte");
+        return report::put(text, 0, b"no first byte");
     }
     let mut kinds = [0u8; RECORDS];
     let mut lengths = [0usize; RECORDS];
@@ -186,7 +186,7 @@ fn put_result(text: &mut [u8], line: &[u8]) -> usize {
         &mut bodies,
     );
     let Records::Read(count) = records else {
-        return vectors::put(text, 0, b"no records");
+        return report::put(text, 0, b"no records");
     };
     let mut out = [FILL; OUTPUT];
     let written = write(

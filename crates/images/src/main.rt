@@ -31,7 +31,7 @@ fn put_comma(text: &mut [u8], first: usize, at: usize) -> usize {
     if at == first {
         return at;
     }
-    vectors::put(text, at, b",")
+    report::put(text, at, b",")
 }
 
 fn put_slot(text: &mut [u8], first: usize, at: usize, s: &[u8], ix: Index, k: u8) -> usize {
@@ -43,9 +43,9 @@ fn put_slot(text: &mut [u8], first: usize, at: usize, s: &[u8], ix: Index, k: u8
         return at;
     }
     let entry = put_comma(text, first, at);
-    let colon = vectors::put_decimal(text, entry, k as u64);
-    let number = vectors::put(text, colon, b":");
-    vectors::put_decimal(text, number, length as u64)
+    let colon = report::put_decimal(text, entry, k as u64);
+    let number = report::put(text, colon, b":");
+    report::put_decimal(text, number, length as u64)
 }
 
 // The filled slots with the lengths of their chains.
@@ -61,21 +61,21 @@ fn put_slots(text: &mut [u8], first: usize, s: &[u8], ix: Index) -> usize {
 fn put_indices(text: &mut [u8], first: usize, s: &[u8], ix: Index) -> usize {
     let count = wire::wide(ix.measurements);
     if count == 0 {
-        return vectors::put(text, first, b"-");
+        return report::put(text, first, b"-");
     }
     let mut at = first;
     for k in 0..count {
         let index = wire::byte_at(lookup::nth_measurement(s, ix, k), 0);
         let entry = put_comma(text, first, at);
-        at = vectors::put_decimal(text, entry, index as u64);
+        at = report::put_decimal(text, entry, index as u64);
     }
     at
 }
 
 // A number and a space behind it.
 fn put_field(text: &mut [u8], at: usize, n: u8) -> usize {
-    let end = vectors::put_decimal(text, at, n as u64);
-    vectors::put(text, end, b" ")
+    let end = report::put_decimal(text, at, n as u64);
+    report::put(text, end, b" ")
 }
 
 // What an accepted image holds.
@@ -85,7 +85,7 @@ fn put_contents(text: &mut [u8], s: &[u8], ix: Index) -> usize {
     let signature = put_field(text, hash, ix.hash);
     let slots = put_field(text, signature, ix.signature);
     let end = put_slots(text, slots, s, ix);
-    let indices = vectors::put(text, end, b" ");
+    let indices = report::put(text, end, b" ");
     put_indices(text, indices, s, ix)
 }
 
@@ -95,7 +95,7 @@ fn put_result(text: &mut [u8], s: &[u8], read: Image) -> usize {
     let Verdict::Refused(number) = verdict else {
         return put_contents(text, s, read.index);
     };
-    vectors::put_decimal(text, 0, number as u64)
+    report::put_decimal(text, 0, number as u64)
 }
 
 fn print_difference(line: u64, said: &[u8], wanted: &[u8]) {

@@ -110,8 +110,8 @@ fn answer_length(reply: Reply) -> usize {
 
 // A number with a space before it.
 fn put_word(text: &mut [u8], at: usize, n: u32) -> usize {
-    let space = vectors::put(text, at, b" ");
-    vectors::put_decimal(text, space, n as u64)
+    let space = report::put(text, at, b" ");
+    report::put_decimal(text, space, n as u64)
 }
 
 fn put_state(text: &mut [u8], at: usize, s: State) -> usize {
@@ -127,9 +127,9 @@ fn put_state(text: &mut [u8], at: usize, s: State) -> usize {
 
 // The CRC-32 of bytes in hex, with a space before it.
 fn put_checksum(text: &mut [u8], at: usize, s: &[u8]) -> usize {
-    let crc = vectors::crc32(s);
-    let space = vectors::put(text, at, b" ");
-    vectors::put_hex(
+    let crc = report::crc32(s);
+    let space = report::put(text, at, b" ");
+    report::put_hex(
         text,
         space,
         &[
@@ -147,7 +147,7 @@ fn put_changed(text: &mut [u8], at: usize, before: &[u8], answer: &[u8], n: usiz
     if check::same(rest, wire::part_of(before, n, MESSAGE)) {
         return at;
     }
-    vectors::put(text, at, b" changed")
+    report::put(text, at, b" changed")
 }
 
 // What a call gave, as the vectors have it.
@@ -160,9 +160,9 @@ fn put_given(
 ) -> usize {
     let reply = o.reply;
     let n = answer_length(reply);
-    let number = vectors::put_decimal(text, 0, host_number(reply) as u64);
-    let space = vectors::put(text, number, b" ");
-    let hex = vectors::put_hex(text, space, wire::part_of(answer, 0, n));
+    let number = report::put_decimal(text, 0, host_number(reply) as u64);
+    let space = report::put(text, number, b" ");
+    let hex = report::put_hex(text, space, wire::part_of(answer, 0, n));
     let state = put_state(text, hex, o.state);
     let end = put_checksum(text, state, transcript);
     put_changed(text, end, before, answer, n)

@@ -1,18 +1,11 @@
-// What a run of test vectors is made of: lines through a buffer, their words, numbers and bytes in hex, text put together to be
-// held against them, and the CRC-32 of bytes. Nothing is asked of a caller.
-mod checksum;
+// What a run of test vectors reads: lines through a buffer, their words, numbers and bytes in hex. Nothing is asked of a caller.
 mod lines;
-mod text;
 
-pub use checksum::crc32;
 pub use lines::Lines;
 pub use lines::Next;
 pub use lines::before_first;
 pub use lines::line_in;
 pub use lines::next_line;
-pub use text::put;
-pub use text::put_decimal;
-pub use text::put_hex;
 ghost use Prim.Native.Nat.{_≤_};
 ghost use lib.ListN.{length};
 

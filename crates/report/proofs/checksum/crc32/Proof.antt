@@ -1,8 +1,8 @@
 use borrow.Author.Needs.{needs}
 use lib.ListN.{length}
 use Prim.Native.Nat.{_-_, _≤_}
-use Rattle.vectors.proofs.checksum.crc32.Statement.{statement}
-use Rattle.vectors.proofs.checksum.crc32.Tie as tie
+use Rattle.report.proofs.checksum.crc32.Statement.{statement}
+use Rattle.report.proofs.checksum.crc32.Tie as tie
 
 abbrev Inv-loop : tie.InvT-loop
 Inv-loop s crc₀ i₀ crc i = (i ≤ length s)

@@ -1,6 +1,8 @@
 // Text put together in a buffer that the caller lends: each function puts it from a place on, and answers where it ends.
 // What would lie past the buffer's end is lost.
-use crate::NONE;
+
+// What stands for no bytes.
+const NONE: u8 = b'-';
 
 const HEX_DIGITS: [u8; 16] = *b"0123456789abcdef";
 

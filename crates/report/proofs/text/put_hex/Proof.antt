@@ -2,8 +2,8 @@ use borrow.Author.Needs.{needs}
 use lib.ListN.{length}
 use mathlib.Core.Path.{_≡_}
 use Prim.Native.Nat.{_-_, _≤_}
-use Rattle.vectors.proofs.text.put_hex.Statement.{statement}
-use Rattle.vectors.proofs.text.put_hex.Tie as tie
+use Rattle.report.proofs.text.put_hex.Statement.{statement}
+use Rattle.report.proofs.text.put_hex.Tie as tie
 
 abbrev Inv-loop : tie.InvT-loop
 Inv-loop text₀ at bytes end₀ i₀ text end i = (i ≤ length bytes) × (length text ≡ length text₀)
