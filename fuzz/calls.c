@@ -189,7 +189,7 @@ static void demand_refusal(const struct driver *driver)
     memcpy(left, driver->before.state, sizeof left);
     if (empties_m(&driver->before, driver->world.answer[2]))
         left[SPDM_STATE_M] = 0;
-    demand_left(driver, left, "a refusal changed the transcript, or of the state what it has to leave");
+    demand_left(driver, left, "after a refusal the state or the transcript is not what it leaves");
 }
 
 // Demand 1, without any model: a number changes nothing, an ERROR only its own bytes and M's count, an answer only its
@@ -219,7 +219,7 @@ static void demand_rules(struct driver *driver, uint32_t result, bool finishing)
     }
 }
 
-// Demand 2: result, state, answer buffer and transcript are what paper 01 says.
+// Demand 2: result, state, answer buffer and transcript are what paper 01, as amended, says.
 static void demand_plain(const struct driver *driver, uint32_t result, uint32_t wanted)
 {
     const struct world *now = &driver->world, *plain = &driver->plain;

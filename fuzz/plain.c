@@ -454,7 +454,7 @@ static uint32_t serve(struct call *call, unsigned code)
     }
 }
 
-// Steps 1 to 6, then the message's own. A GET_MEASUREMENTS that these refuse empties M.
+// Steps 1 to 6, then the message's own steps 7 to 9, which empty M where they refuse a GET_MEASUREMENTS.
 static uint32_t answer_request(struct call *call)
 {
     if (call->request_length < 4)

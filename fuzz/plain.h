@@ -1,5 +1,5 @@
-// A plain responder in C, written from paper 01 and the decisions on its open points, not from the library:
-// what every call of the library must come to.
+// A plain responder in C, written from paper 01, as paper 02 amends it, and the decisions on its open points, not from
+// the library: what every call of the library must come to.
 #ifndef PLAIN_H
 #define PLAIN_H
 

@@ -164,8 +164,8 @@ static void pad_and_reserve(struct stage *stage)
     check_verdict(stage, panel_attest(&stage->panel, LARGE, 0, 100), GOOD, "reserved bytes are signed as they came");
 }
 
-// B is emptied by GET_MEASUREMENTS, M by any other request and by a GET_MEASUREMENTS that is refused; the panel does the
-// same with its log.
+// B is emptied by GET_MEASUREMENTS, M by any other request and by a GET_MEASUREMENTS that is refused at step 7, 8 or 9.
+// The panel does the same with its log, and forgets M at any ERROR to GET_MEASUREMENTS; it meets none of steps 1 to 6.
 static void empty_transcripts(struct stage *stage)
 {
     struct panel *panel = &stage->panel;

@@ -431,6 +431,7 @@ enum verdict panel_measurements(struct panel *panel, uint8_t slot, bool is_signe
     if (RAND_bytes(text + 4, NONCE_SIZE) != 1)
         return SILENT;
     enum verdict verdict = ask(panel, request, MEASUREMENTS);
+    // As panels do: at an ERROR to GET_MEASUREMENTS what was measured before is forgotten.
     if (verdict == REFUSED)
         panel->m.length = 0;
     if (verdict == GOOD)

@@ -91,9 +91,9 @@ extern "C" {
  * they were.
  *   After a refused request, whose answer is an ERROR (its second byte is 0x7F): only the 4 or 8 bytes of the ERROR
  *   were written. State and transcript are as they were, but for this: a GET_MEASUREMENTS (request[1] is 0xE0) that is
- *   refused for its own fields, its answer's size or want of room empties M, so state[SPDM_STATE_M] is 0 and no byte of
- *   the transcript is changed. The ERROR tells: its code answer[2] is then 0x01, 0x0D or 0x05, and request_len is 4 or
- *   more. A GET_MEASUREMENTS that is refused otherwise leaves M.
+ *   refused because it is shorter than its layout or a field is wrong, for its answer's size or for want of room empties
+ *   M: state[SPDM_STATE_M] is 0, and no byte of the transcript is changed. The ERROR tells: this is so exactly where its
+ *   code answer[2] is 0x01, 0x0D or 0x05 and request_len is 4 or more.
  *   After an accepted request: `answer` holds the answer, the request (as far as its layout goes) and the answer were
  *   appended to the transcript, where no other byte was changed, and `state` is the next state. Where
  *   state[SPDM_STATE_AWAITED] is not 0 afterwards, the answer must not be sent yet: its signature is zeros, to be

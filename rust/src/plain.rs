@@ -1,4 +1,4 @@
-//! The plain responder: paper 01 written down once more, in ordinary Rust.
+//! The plain responder: paper 01, as paper 02 amends it, written down once more, in ordinary Rust.
 //!
 //! It shares no code with the proved responder and was written from the paper, not from that code. Nothing in
 //! it is `unsafe`. Each call walks the records of the image once and keeps slices of it.
@@ -910,6 +910,7 @@ pub(crate) fn try_respond<'i>(
             Ok(accepted.length)
         }
         Err(refusal) => {
+            // Only M's count: the other words stay as they were handed in, the answer's length too.
             if code == 0xE0 {
                 words[M_USED] = 0;
             }

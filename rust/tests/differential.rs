@@ -801,6 +801,8 @@ struct Met {
     accepted: [u64; 256],
     /// By the ERROR's code: refusals that found bytes in M and emptied it.
     emptied: [u64; 256],
+    /// Likewise: refusals of GET_MEASUREMENTS that found bytes in M and left them.
+    left: [u64; 256],
     signed: u64,
     finished: [u64; 2],
     shown: u64,
@@ -814,6 +816,7 @@ impl Met {
             errors: [0; 256],
             accepted: [0; 256],
             emptied: [0; 256],
+            left: [0; 256],
             signed: 0,
             finished: [0; 2],
             shown: 0,
@@ -1030,9 +1033,12 @@ impl Host {
                     let code = answer.plain[2];
                     met.errors[usize::from(code)] += 1;
                     let mut left = setting.state.clone();
+                    let measured = u64::from(request.get(1) == Some(&0xE0) && left[5] != 0);
                     if empties_m(request, code) {
-                        met.emptied[usize::from(code)] += u64::from(left[5] != 0);
+                        met.emptied[usize::from(code)] += measured;
                         left[5] = 0;
+                    } else {
+                        met.left[usize::from(code)] += measured;
                     }
                     if state.plain != left {
                         return Err("an ERROR, and yet the state is not what it leaves (on both sides)".to_owned());
@@ -1160,6 +1166,9 @@ fn random_runs() {
         for code in [0x01, 0x05, 0x0D] {
             assert!(met.emptied[code] > 0, "error {code:#04x} never emptied M");
         }
+        for code in [0x01, 0x03, 0x04, 0x07, 0x0E, 0x41] {
+            assert!(met.left[code] > 0, "error {code:#04x} never left M");
+        }
         assert!(met.finished.iter().all(|&count| count > 0) && met.signed > 0 && met.shown > 0);
     }
 }
@@ -1210,6 +1219,7 @@ fn print_met(met: &Met) {
     print_counts("errors  ", &met.errors, true);
     print_counts("accepted", &met.accepted, true);
     print_counts("emptied ", &met.emptied, true);
+    print_counts("left    ", &met.left, true);
     print_counts("images  ", &met.images, false);
     println!(
         "awaiting a signature: {}; finished: {} signed, {} chip failed; shown to be signed: {}",

@@ -1,4 +1,5 @@
--- The paper's flows, its starred lines and more, as one claim: the plain box is computed on each. Assumes nothing.
+-- The papers' flows, paper 01's starred lines and more, and those of request 3, as one claim: the plain box is computed on each. Assumes
+-- nothing.
 use mathlib.Core.Path.{_≡_, refl}
 use mathlib.Core.Bool.{Bool, true, false}
 use mathlib.Core.List.{List, [], _∷_, _++_, map}
@@ -225,7 +226,7 @@ pub record Flow : Type 0 where
 abbrev pub gives : List Feed → Heard → Flow
 gives calls expected = record { from = freshPlain; calls = calls; expected = expected }
 
--- a connected box whose M holds so many bytes
+-- a box in phase 3, A and B empty, whose M holds so many zeros
 abbrev pub holding : ℕ → Plain
 holding n = record { phase = 3; peer = 4608; selection = 1; A = []; B = []; M = replicate n 0; awaited = 0; answer = [] }
 
@@ -299,7 +300,7 @@ refusals =
       calls = map ask (countMeasurements ∷ signMeasurements 7 ∷ []);
       expected = awaiting (refused 0x05 0 ∷ unsigned measurements ∷ []) measurementsPrefix (signMeasurements 7 ∷ measurements ∷ []);
     }
-    -- steps 1 and 5 leave M, and so does any other request
+    -- steps 1 and 5 leave M, and so does the refusal of another request
     ∷ gives (connected 4608 (countMeasurements ∷ (0x12 ∷ 0xE0 ∷ 0 ∷ []) ∷ (0x11 ∷ 0xE0 ∷ 0 ∷ 0 ∷ []) ∷ getPortion 100 ∷ signMeasurements 7 ∷ []))
     (awaiting (agreed (counted ∷ refused 0x01 0 ∷ refused 0x41 0 ∷ refused 0x01 0 ∷ unsigned measurements ∷ [])) measurementsPrefix
     (exchanged ++ (countMeasurements ∷ counted ∷ signMeasurements 7 ∷ measurements ∷ [])))

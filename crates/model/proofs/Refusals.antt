@@ -1,6 +1,6 @@
--- Which refusals empty M, told by what a requester has in hand: its request and the ERROR's code. Of the nine steps only 1 and 7 have one code,
--- and only step 1 refuses a request that is shorter than a header; so the step can be read off. By a walk over the steps in their order.
--- Assumes nothing.
+-- Which refusals empty M, told by what a requester has in hand: its request and the ERROR's code. Of the nine steps only 1 and 7 share a
+-- code, and only step 1 refuses a request that is shorter than a header; so length and code tell the step. By a walk over the steps in
+-- their order. Assumes nothing.
 use mathlib.Core.Path.{_≡_, refl}
 use mathlib.Core.Bool.{Bool, true, false, not, _&&_, _||_, and-false}
 use mathlib.Core.List.{List}
@@ -11,12 +11,13 @@ use borrow.Author.Tests.{eqb-true}
 use Rattle.wire.specs.Pick.{pick}
 use Rattle.wire.proofs.Picks.{pick-case}
 use Rattle.image.specs.Contents.{Contents}
-use Rattle.model.specs.Limits.{headerLength, invalidRequest, unspecified, responseTooLarge}
-use Rattle.model.specs.Facts.{Facts}
+use Rattle.image.specs.Reading.{Result, number, found}
+use Rattle.model.specs.Limits.{headerLength, getMeasurements, invalidRequest, unspecified, responseTooLarge}
+use Rattle.model.specs.Facts.{Facts, factsOf}
 use Rattle.model.specs.Steps.{kindOf, codeByte, kindSteps, firstSteps, sizeSteps}
 use Rattle.model.specs.Measurements.{measurementsSized, operationStep, measurementsBy, measurementsDecision}
-use Rattle.model.specs.Decisions.{lastSteps, requestDecision}
-use Rattle.model.specs.Effects.{emptiesM, Effect, host, refuse, accept, effectOf}
+use Rattle.model.specs.Decisions.{lastSteps, requestDecision, decisionOf}
+use Rattle.model.specs.Effects.{emptiesM, Effect, host, refuse, accept, effectOf, effectBy}
 use Rattle.model.specs.declared.State.{State}
 use Rattle.model.specs.declared.Kind.the-variants as kind
 use Rattle.model.specs.declared.Operation.{Operation}
@@ -29,11 +30,11 @@ use Rattle.model.specs.declared.Decision.the-variants as decision
 abbrev pub lateCode : ℕ → Bool
 lateCode code = eqb code invalidRequest || eqb code responseTooLarge || eqb code unspecified
 
--- "byte 1 is 0xE0 and the step that refuses is 7, 8 or 9"
+-- "byte 1 is 0xE0 and the step that refuses is 7, 8 or 9", the step told by length and code
 abbrev pub seenEmptied : List ℕ → ℕ → Bool
-seenEmptied r code = eqb (codeByte r) 0xE0 && not (ltb (length r) headerLength) && lateCode code
+seenEmptied r code = eqb (codeByte r) getMeasurements && not (ltb (length r) headerLength) && lateCode code
 
--- a refusal leaves A and B, and M unless a requester sees it emptied
+-- a refusal leaves A and B, and empties M exactly where a requester sees it
 abbrev pub LeavesAsSeen : List ℕ → Effect → Type 0
 LeavesAsSeen r (host n) = Unit {0}
 LeavesAsSeen r (refuse bytes kept) = kept ≡ record { A = true; B = true; M = not (seenEmptied r (getD bytes 2 0)) }
@@ -48,8 +49,8 @@ module _ (f : Facts) (c : Contents) (s : State) (r nonce : List ℕ) where
   accepted o signer.Nobody = tt
   accepted o (signer.Slot k) = tt
 
-  -- any other request leaves M, whatever it comes to
-  other : eqb (codeByte r) 0xE0 ≡ false → (d : Decision) → P d
+  -- no refusal of another request empties M
+  other : eqb (codeByte r) getMeasurements ≡ false → (d : Decision) → P d
   unfolding effectOf
   other e (decision.Number k) = tt
   other e (decision.Error step code extra) = rw e
@@ -62,19 +63,20 @@ module _ (f : Facts) (c : Contents) (s : State) (r nonce : List ℕ) where
   other e (decision.Challenge slot summary) = tt
   other e (decision.Measurements operation signer) = accepted operation signer
 
-  module _ (e : codeByte r ≡ 0xE0) where
+  module _ (e : codeByte r ≡ getMeasurements) where
     -- step 1, for what is shorter than a header
-    short : (step code extra : ℕ) → emptiesM step 0xE0 ≡ false → ltb (length r) headerLength ≡ true → P (decision.Error step code extra)
+    short : (step code extra : ℕ) → emptiesM step getMeasurements ≡ false → ltb (length r) headerLength ≡ true → P (decision.Error step code extra)
     unfolding effectOf
     short step code extra k l = rw (e, k, l)
 
     -- steps 2 to 6 have codes of their own
-    early : (step code extra : ℕ) → emptiesM step 0xE0 ≡ false → lateCode code ≡ false → P (decision.Error step code extra)
+    early : (step code extra : ℕ) → emptiesM step getMeasurements ≡ false → lateCode code ≡ false → P (decision.Error step code extra)
     unfolding effectOf
     early step code extra k n = rw (e, k, n, and-false)
 
     module _ (l : ltb (length r) headerLength ≡ false) where
-      late : (step code extra : ℕ) → emptiesM step 0xE0 ≡ true → lateCode code ≡ true → P (decision.Error step code extra)
+      -- steps 7 and 9, with the codes that tell them; step 8 below
+      late : (step code extra : ℕ) → emptiesM step getMeasurements ≡ true → lateCode code ≡ true → P (decision.Error step code extra)
       unfolding effectOf
       late step code extra k n = rw (e, k, l, n)
 
@@ -108,10 +110,32 @@ module _ (f : Facts) (c : Contents) (s : State) (r nonce : List ℕ) where
         pick-case P _ _ _ (λ _. last l)
         (λ _. early _ _ _ refl refl)) (λ _. early _ _ _ refl refl)) (λ _. early _ _ _ refl refl)))))
 
-  -- "Which requests this concerns": of every request that is refused, A and B stay, and M stays unless it is seen emptied
-  pub emptied-as-seen : P (requestDecision f s r)
-  emptied-as-seen = by-code (eqb (codeByte r) 0xE0) refl
+  -- the nine steps, of any request
+  nine-steps : P (requestDecision f s r)
+  nine-steps = by-code (eqb (codeByte r) getMeasurements) refl
     where
-      by-code : (b : Bool) → eqb (codeByte r) 0xE0 ≡ b → P (requestDecision f s r)
+      by-code : (b : Bool) → eqb (codeByte r) getMeasurements ≡ b → P (requestDecision f s r)
       by-code true e = steps (eqb-true _ _ e)
       by-code false e = other e _
+
+  -- the host's numbers come first, and are no refusals
+  numbered : (k : ℕ) → P (decision.Number k)
+  unfolding effectOf
+  numbered k = tt
+
+  called : (answerLength lentLength : ℕ) → P (decisionOf f s answerLength lentLength (length nonce) r)
+  unfolding decisionOf
+  called answerLength lentLength =
+      pick-case P _ _ _ (λ _. numbered _) (λ _.
+      pick-case P _ _ _ (λ _. numbered _) (λ _.
+      pick-case P _ _ _ (λ _.
+      pick-case P _ _ _ (λ _. nine-steps)
+      (λ _. numbered _)) (λ _. numbered _)))
+
+-- "Which requests this concerns", of every call: where it is refused, A and B stay, and M is emptied exactly when byte 1 is 0xE0, the request has
+-- a header and the ERROR's code is 0x01, 0x0D or 0x05
+pub emptied-as-seen : (x : Result Contents) (s : State) (answerLength lentLength : ℕ) (r nonce : List ℕ)
+    → LeavesAsSeen r (effectBy x s answerLength lentLength r nonce)
+unfolding effectBy
+emptied-as-seen (number k) s answerLength lentLength r nonce = tt
+emptied-as-seen (found c) s answerLength lentLength r nonce = called (factsOf c) c s r nonce answerLength lentLength

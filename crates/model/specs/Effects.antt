@@ -1,7 +1,7 @@
 -- What a decision does, alike for the box and the plain box: an answer, and what changes.
 use mathlib.Core.Bool.{Bool, true, false, not, _&&_}
 use mathlib.Core.List.{List, [], _∷_, _++_}
-use Prim.Native.Nat.{ℕ, _+_}
+use Prim.Native.Nat.{ℕ}
 use lib.ListN.{length, take, replicate}
 use lib.Dec.{ltb, leb, eqb}
 use Rattle.wire.specs.Bytes.{leBytes}
@@ -9,7 +9,7 @@ use Rattle.wire.specs.Pick.{pick}
 use Rattle.image.specs.Sizes.{signatureSize}
 use Rattle.image.specs.Contents.{Contents}
 use Rattle.image.specs.Reading.{Result, number, found}
-use Rattle.model.specs.Limits.{headerLength, capabilitiesLayout, certificateLayout, challengeLayout, version10, version12, fieldsStep, sizeStep, roomStep, responseTooLarge, awaitsChallenge, awaitsMeasurements}
+use Rattle.model.specs.Limits.{headerLength, capabilitiesLayout, certificateLayout, challengeLayout, version10, version12, getMeasurements, fieldsStep, sizeStep, roomStep, responseTooLarge, awaitsChallenge, awaitsMeasurements}
 use Rattle.model.specs.Facts.{factsOf}
 use Rattle.model.specs.Steps.{codeByte}
 use Rattle.model.specs.Version.{versionBytes}
@@ -47,12 +47,13 @@ partFor kind.Challenge = inB
 partFor kind.Measurements = inM
 partFor kind.Unsupported = inM
 
--- "B is emptied by an accepted GET_MEASUREMENTS, M by any other accepted request, all by GET_VERSION, before it is appended itself"
+-- which parts a request leaves
 pub record Kept : Type 0 where
   pub A : Bool
   pub B : Bool
   pub M : Bool
 
+-- "B is emptied by an accepted GET_MEASUREMENTS, M by any other accepted request, all by GET_VERSION, before it is appended itself"
 abbrev pub keptBy : Kind → Kept
 keptBy kind.Version = record { A = false; B = false; M = false }
 keptBy kind.Capabilities = record { A = true; B = true; M = false }
@@ -70,11 +71,11 @@ keeps inM k = keptBy k .M
 
 -- Paper 02, 3: "a GET_MEASUREMENTS refused at step 7, 8 or 9 empties M"
 abbrev pub emptiesM : ℕ → ℕ → Bool
-emptiesM step code = eqb code 0xE0 && leb fieldsStep step && leb step roomStep
+emptiesM step asked = eqb asked getMeasurements && leb fieldsStep step && leb step roomStep
 
 -- what a refusal leaves, by its step and the request's byte 1
 abbrev pub keptByRefusal : ℕ → ℕ → Kept
-keptByRefusal step code = record { A = true; B = true; M = not (emptiesM step code) }
+keptByRefusal step asked = record { A = true; B = true; M = not (emptiesM step asked) }
 
 -- An accepted request's change: the new numbers, the kind, what is appended, and the answer whose signature is awaited (0: none).
 pub record Change : Type 0 where

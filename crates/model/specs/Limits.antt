@@ -1,4 +1,4 @@
--- The responder's limits, codes and host numbers, as paper 01 gives them.
+-- The responder's limits, steps, codes and host numbers, as paper 01 gives them.
 use Prim.Native.Nat.{ℕ}
 
 -- "answer buffer under 4,608"; a request "over 4,608 bytes"; "both sizes 4,608"
@@ -88,6 +88,10 @@ version10 = 0x10
 
 abbrev pub version12 : ℕ
 version12 = 0x12
+
+-- a request code
+abbrev pub getMeasurements : ℕ
+getMeasurements = 0xE0
 
 -- "A request, checked in this order": the steps, each with its test
 

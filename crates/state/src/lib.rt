@@ -6,6 +6,7 @@ use model::limits::AWAITS_MEASUREMENTS;
 use model::limits::B_LIMIT;
 use model::limits::CAPABILITIES_USED;
 use model::limits::FIELDS_STEP;
+use model::limits::GET_MEASUREMENTS;
 use model::limits::M_LIMIT;
 use model::limits::MESSAGE_LIMIT;
 use model::limits::PEER_LEAST;
@@ -126,10 +127,10 @@ pub fn in_bounds(ix: Index, s: State) -> bool
 }
 
 // What a refusal leaves, by its step and the request's code: a GET_MEASUREMENTS that is refused at step 7, 8 or 9 empties M.
-pub fn refused(s: State, step: u8, code: u8) -> State
-    ensures { λ r. ⌜ r ≡ refusedState (keptByRefusal step code) s ⌝ }
+pub fn refused(s: State, step: u8, asked: u8) -> State
+    ensures { λ r. ⌜ r ≡ refusedState (keptByRefusal step asked) s ⌝ }
 {
-    if code != 0xE0 {
+    if asked != GET_MEASUREMENTS {
         return s;
     }
     if step < FIELDS_STEP {
@@ -138,14 +139,5 @@ pub fn refused(s: State, step: u8, code: u8) -> State
     if ROOM_STEP < step {
         return s;
     }
-    State {
-        phase: s.phase,
-        peer: s.peer,
-        selection: s.selection,
-        a: s.a,
-        b: s.b,
-        m: 0,
-        awaited: s.awaited,
-        answer: s.answer,
-    }
+    State { m: 0, ..s }
 }
