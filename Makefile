@@ -7,7 +7,7 @@ RUST := --offline --release --manifest-path rust/Cargo.toml
 
 include demo.mk
 
-.PHONY: test rust-test bench
+.PHONY: test rust-test bench proved
 
 rust-test: $(RESPONDER_LIB) $(MAKE_IMAGE)
 	$(CARGO) test -q $(RUST)
@@ -15,7 +15,11 @@ rust-test: $(RESPONDER_LIB) $(MAKE_IMAGE)
 bench: $(RESPONDER_LIB)
 	$(CARGO) run -q $(RUST) --bin bench
 
+# What the tests link and run, proved side by side; the targets below then find it proved.
+proved:
+	rt check responder signing make_image
+
 # rt ci removes target/ and proves everything from nothing, so it comes last.
-test: fuzz-short demo-sanitized demo-image rust-test
+test: proved fuzz-short demo-sanitized demo-image rust-test
 	rt fmt --check
 	rt ci
