@@ -133,15 +133,8 @@ uint32_t plain_read_image(const uint8_t *image, size_t image_len)
 
 // ---- The state
 
-static bool awaited_in_bounds(const struct facts *facts, const uint32_t *state)
-{
-    if (state[AWAITED] == 0)
-        return true;
-    return state[AWAITED] <= 2 && state[PHASE] == 3 && state[ANSWER] >= 4 + facts->signature_size
-        && state[ANSWER] <= MESSAGE_LIMIT;
-}
-
-static bool in_bounds(const struct facts *facts, const uint32_t *state, size_t words)
+// The bounds that need no image.
+static bool own_bounds(const uint32_t *state, size_t words)
 {
     static const uint32_t a_held[] = {0, 12, 52};
     if (words != 8 || state[PHASE] > 3 || state[A] > B_START || state[B] > B_LIMIT || state[M] > M_LIMIT)
@@ -150,9 +143,16 @@ static bool in_bounds(const struct facts *facts, const uint32_t *state, size_t w
         return false;
     if (state[PHASE] < 3 && (state[A] != a_held[state[PHASE]] || state[B] != 0 || state[M] != 0))
         return false;
-    if (state[SELECTION] > 1 || (state[SELECTION] == 1 && (state[PHASE] != 3 || facts->measurement_count == 0)))
+    if (state[SELECTION] > 1 || (state[SELECTION] == 1 && state[PHASE] != 3))
         return false;
-    return awaited_in_bounds(facts, state);
+    return state[AWAITED] == 0 || (state[AWAITED] <= 2 && state[PHASE] == 3 && state[ANSWER] <= MESSAGE_LIMIT);
+}
+
+static bool in_bounds(const struct facts *facts, const uint32_t *state, size_t words)
+{
+    if (!own_bounds(state, words) || (state[SELECTION] == 1 && facts->measurement_count == 0))
+        return false;
+    return state[AWAITED] == 0 || state[ANSWER] >= 4 + facts->signature_size;
 }
 
 // ---- A request
@@ -527,15 +527,13 @@ uint32_t plain_finish(const uint8_t *image, size_t image_len, uint32_t *state, s
     return length;
 }
 
-// The header's own rules: 11 for a short buffer, 14 for a state that no image has in bounds, 15, else 100.
+// The header's own rules: 11 for a short buffer, 14 by the bounds that need no image, 15, else 100.
 uint32_t plain_to_sign(const uint32_t *state, size_t state_len, uint8_t *prefix, size_t prefix_len, uint32_t *parts,
     size_t parts_len)
 {
     if (prefix_len < 100 || parts_len < 4)
         return 11 << 16;
-    if (state_len != 8 || state[PHASE] > 3 || state[A] > B_START || state[B] > B_LIMIT || state[M] > M_LIMIT)
-        return 14 << 16;
-    if (state[AWAITED] > 2 || (state[AWAITED] != 0 && state[PHASE] != 3))
+    if (!own_bounds(state, state_len))
         return 14 << 16;
     if (state[AWAITED] == 0)
         return 15 << 16;

@@ -70,7 +70,7 @@ extern "C" {
 #define SPDM_SHORT_BUFFER 11       /* answer under 4,608 bytes; for spdm_to_sign: prefix under 100, or parts under 4 */
 #define SPDM_SHORT_TRANSCRIPT 12   /* transcript under 16,384 bytes */
 #define SPDM_WRONG_NONCE 13        /* nonce not 32 bytes */
-#define SPDM_WRONG_STATE 14        /* state out of its bounds, or not 8 words */
+#define SPDM_WRONG_STATE 14        /* state not 8 words or out of its bounds; spdm_to_sign: bounds that need no image */
 #define SPDM_NOTHING_AWAITED 15    /* no signature is awaited */
 #define SPDM_WRONG_SIGNATURE 16    /* the chip succeeded, and its signature is not S bytes */
 
@@ -140,14 +140,17 @@ uint32_t spdm_finish(const uint8_t *image, size_t image_len,
  *
  * Numbers, the first that holds, in this order:
  *   11   prefix_len is under 100, or parts_len under 4
- *   14   state_len is not 8, or the state is out of its bounds as far as this can be told without an image: phase over
- *        3, A, B or M over 512, 8,192 or 7,680 bytes, awaited over 2, or awaited in another phase than 3
+ *   14   state_len is not 8, or the state is out of its bounds, of which those are tested that need no image: phase 0
+ *        to 3; A, B, M at most 512, 8,192, 7,680 bytes; in phases 2 and 3 a peer's size of at least 42; in phases 0, 1,
+ *        2 exactly 0, 12, 52 bytes of A, and none of B and M; selection 0 or 1, and 1 only in phase 3; awaited 0, 1 or
+ *        2, and 1 or 2 only in phase 3, with an answer's length of at most 4,608
  *   15   no signature is awaited
  * (No others are given.) Afterwards prefix and parts are as they were.
  *
  * Without a number the length is 100: the first 100 bytes of `prefix` are the prefix, and the first 4 words of `parts`
  * are offset and length in the transcript of A, then of B (or M). What lies past them is as it was. The state is never
- * written.
+ * written. For the same state spdm_respond and spdm_finish give 14 only for what goes by the image lent to them: a
+ * selection where it has no measurements, or an awaited answer shorter than 4 + S.
  */
 uint32_t spdm_to_sign(const uint32_t *state, size_t state_len,
                       uint8_t *prefix, size_t prefix_len,

@@ -10,7 +10,7 @@
 //! The library is looked for in `../target/staticlib`; `SPDM_LIB_DIR` names another directory.
 //!
 //! * `cargo test --release`: the vectors (`tests/vectors.rs`), through all three responders, and the random runs of
-//!   calls (`tests/differential.rs`). The vectors are those that the programs `images` and `replay` read.
+//!   calls (`tests/differential.rs`). The vectors are those that the program `vectors` runs.
 //! * `SPDM_SEED=7 SPDM_CALLS=5000000 cargo test --release --test differential -- --nocapture`: other random runs,
 //!   more of them, with the count of what was met.
 //! * `cargo run --release --bin bench`: times all three, and counts their instructions by valgrind's callgrind.

@@ -373,10 +373,17 @@ struct State {
 impl State {
     /// Takes the host's words, unless they are outside their bounds.
     fn load<'i>(words: &[u32], image: &impl Provision<'i>) -> Result<State, Number> {
-        Self::from_words(words, image).ok_or(Number::StateBounds)
+        Self::from_words(words).filter(|state| state.fits(image)).ok_or(Number::StateBounds)
     }
 
-    fn from_words<'i>(words: &[u32], image: &impl Provision<'i>) -> Option<State> {
+    /// The bounds that go by the image.
+    fn fits<'i>(&self, image: &impl Provision<'i>) -> bool {
+        (!self.selected || image.has_measurements())
+            && self.awaited.is_none_or(|awaited| 4 + image.signature_size() <= awaited.length)
+    }
+
+    /// The bounds that need no image.
+    fn from_words(words: &[u32]) -> Option<State> {
         let &[phase, peer_size, selection, a, b, m, awaited, length] = words else {
             return None;
         };
@@ -396,16 +403,13 @@ impl State {
         }
         let selected = match selection {
             0 => false,
-            1 if matches!(phase, Phase::Negotiated) && image.has_measurements() => true,
+            1 if matches!(phase, Phase::Negotiated) => true,
             _ => return None,
         };
         let awaited = match (which_signed(awaited)?, phase) {
             (None, _) => None,
             (Some(which), Phase::Negotiated) => {
-                let length = usize::try_from(length).ok()?;
-                if !(4 + image.signature_size()..=MAX_MESSAGE).contains(&length) {
-                    return None;
-                }
+                let length = usize::try_from(length).ok().filter(|&length| length <= MAX_MESSAGE)?;
                 Some(Awaited { which, length })
             }
             (Some(_), _) => return None,
@@ -970,18 +974,11 @@ fn try_to_sign(words: &[u32], prefix: &mut [u8], parts: &mut [u32]) -> Result<us
     if prefix.len() < PREFIX || parts.len() < 4 {
         return Err(Number::AnswerBuffer);
     }
-    let &[phase, _, _, a, b, m, awaited, _] = words else {
-        return Err(Number::StateBounds);
-    };
-    region_counts(a, b, m).ok_or(Number::StateBounds)?;
-    let awaited = which_signed(awaited).ok_or(Number::StateBounds)?;
-    if phase > 3 || (awaited.is_some() && phase != 3) {
-        return Err(Number::StateBounds);
-    }
-    let (context, start, used): (&[u8], usize, u32) = match awaited {
+    let state = State::from_words(words).ok_or(Number::StateBounds)?;
+    let (context, start, used): (&[u8], usize, usize) = match state.awaited.map(|awaited| awaited.which) {
         None => return Err(Number::NothingAwaited),
-        Some(Signed::Challenge) => (b"responder-challenge_auth signing", B_START, b),
-        Some(Signed::Measurements) => (b"responder-measurements signing", M_START, m),
+        Some(Signed::Challenge) => (b"responder-challenge_auth signing", B_START, state.b),
+        Some(Signed::Measurements) => (b"responder-measurements signing", M_START, state.m),
     };
     let mut out = Writer::new(prefix);
     for _ in 0..4 {
@@ -989,6 +986,6 @@ fn try_to_sign(words: &[u32], prefix: &mut [u8], parts: &mut [u32]) -> Result<us
     }
     out.zeros(PREFIX - out.at - context.len());
     out.put(context);
-    parts[..4].copy_from_slice(&[0, a, start as u32, used]);
+    parts[..4].copy_from_slice(&[0, state.a as u32, start as u32, used as u32]);
     Ok(PREFIX)
 }

@@ -39,7 +39,7 @@ fn number(input: &str) -> String {
 fn vectors() {
     let mut lines = 0;
     let mut faults = Vec::new();
-    for (at, line) in (1..).zip(read_lines("image_texts")) {
+    for (at, line) in (1..).zip(read_lines("program.txt")) {
         let (input, expected) = line.split_once(' ').expect("an input and an output");
         let found = hex(&written(&bytes(input), at));
         if found != expected {

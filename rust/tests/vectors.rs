@@ -29,7 +29,7 @@ fn crc32_is_the_usual_one() {
     assert_eq!(crc32(b"123456789"), 0xCBF4_3926);
 }
 
-/// What the plain reader finds, in the words of base-images.txt.
+/// What the plain reader finds, in the words of images.txt.
 fn describe(image: &[u8]) -> String {
     match plain::Image::read(image) {
         Err(number) => (number as u32).to_string(),
@@ -53,23 +53,23 @@ fn describe(image: &[u8]) -> String {
 fn images() {
     let mut lines = 0;
     let mut faults = Vec::new();
-    for (at, line) in (1..).zip(read_lines("images")) {
+    for (at, line) in (1..).zip(read_lines("images.txt")) {
         let (image, expected) = line.split_once(' ').expect("an image and what it holds");
         let image = bytes(image);
         let expected_number: u32 = number(expected.split(' ').next().expect("a number"));
         let found = describe(&image);
         if found != expected {
-            faults.push(format!("base-images.txt:{at}: plain finds {found}, expected {expected}"));
+            faults.push(format!("images.txt:{at}: plain finds {found}, expected {expected}"));
         }
         let results = [plain::read_image(&image), tuned::read_image(&image), ffi::read_image(&image)];
         for (who, result) in ["plain", "tuned", "library"].into_iter().zip(results) {
             if result != expected_number << 16 {
-                faults.push(format!("base-images.txt:{at}: {who} gives {result:#x}, expected {expected_number}"));
+                faults.push(format!("images.txt:{at}: {who} gives {result:#x}, expected {expected_number}"));
             }
         }
         lines += 1;
     }
-    println!("base-images.txt: {lines} lines, {} faults", faults.len());
+    println!("images.txt: {lines} lines, {} faults", faults.len());
     assert!(faults.is_empty(), "{}", faults.join("\n"));
     assert!(lines > 0, "no lines");
 }
@@ -89,7 +89,7 @@ fn run(who: &str, respond: Respond, finish: Finish) -> (usize, Vec<String>) {
     let mut compared = 0;
     let mut faults = Vec::new();
 
-    for (at, line) in (1..).zip(read_lines("replay")) {
+    for (at, line) in (1..).zip(read_lines("runs.txt")) {
         let words: Vec<&str> = line.split(' ').collect();
         match words[..] {
             ["I", name, image] => {

@@ -1,18 +1,23 @@
 // NEGOTIATE_ALGORITHMS.
 use image::Index;
-use model::Decision;
-use model::limits::ALGORITHMS_LEAST;
-use model::limits::ALGORITHMS_MOST;
-use model::limits::TYPE_LEAST;
-use model::limits::TYPE_MOST;
+use rules::Decision;
+use rules::Message;
+use rules::Negotiated;
+use rules::Part;
+use rules::limits::ALGORITHMS_LEAST;
+use rules::limits::ALGORITHMS_LENGTH;
+use rules::limits::ALGORITHMS_MOST;
+use rules::limits::ALGORITHMS_PHASE;
+use rules::limits::TYPE_LEAST;
+use rules::limits::TYPE_MOST;
 ghost use mathlib.Core.Path.{_≡_};
 ghost use mathlib.Core.List.{List};
 ghost use Prim.Native.Nat.{ℕ, _≤_, _-_};
 ghost use lib.ListN.{length};
-ghost use Rattle.model.specs.Facts.{factsAt};
-ghost use Rattle.model.specs.Limits.{algorithmsLeast, algorithmsMost, typeLeast};
-ghost use Rattle.model.specs.Steps.{param1};
-ghost use Rattle.model.specs.Algorithms.{bitSet, lengthField, structuresStart, structuresFit, selectionFor, algorithmsDecision};
+ghost use Rattle.rules.specs.Facts.{factsAt};
+ghost use Rattle.rules.specs.Limits.{algorithmsLeast, algorithmsMost, typeLeast};
+ghost use Rattle.rules.specs.Header.{param1};
+ghost use Rattle.rules.specs.Algorithms.{bitSet, lengthField, structuresStart, structuresFit, selectionFor, algorithmsDecision};
 
 // Whether bit n of a field is set; a field has 32.
 fn bit_set(v: u32, n: u8) -> bool
@@ -26,8 +31,10 @@ fn bit_set(v: u32, n: u8) -> bool
 
 // The structures: so many as Param1 says, of rising types, ending at Length.
 fn structures_fit(r: &[u8], long: usize) -> bool
-    requires { ⌜ (algorithmsLeast ≤ length (now r)) × ((long ≡ lengthField (now r)) × ((long ≤ algorithmsMost) × (long ≤ length (now r)))) ⌝ }
-    ensures { λ t. ⌜ t ≡ structuresFit (now (r .entry)) (param1 (now (r .entry))) (typeLeast - 1) (structuresStart (now (r .entry))) ⌝ }
+    requires { ⌜ (algorithmsLeast ≤ length (now r))
+        × ((long ≡ lengthField (now r)) × ((long ≤ algorithmsMost) × (long ≤ length (now r)))) ⌝ }
+    ensures { λ t. ⌜ t
+        ≡ structuresFit (now (r .entry)) (param1 (now (r .entry))) (typeLeast - 1) (structuresStart (now (r .entry))) ⌝ }
 {
     let mut left: u8 = r[2];
     let mut last: u8 = TYPE_LEAST - 1;
@@ -63,9 +70,10 @@ fn selection_for(ix: Index, r: &[u8]) -> u32
     (wire::byte_at(r, 6) % 2) as u32
 }
 
-pub(crate) fn decide_algorithms(ix: Index, r: &[u8]) -> Decision
-    ensures { λ d. ⌜ ((b : List ℕ) → d ≡ algorithmsDecision (factsAt b ix) (now (r .entry))) ⌝ }
+pub(crate) fn decide_algorithms(ix: Index, n: Negotiated, r: &[u8]) -> Decision
+    ensures { λ d. ⌜ ((b : List ℕ) → d ≡ algorithmsDecision (factsAt b ix) n (now (r .entry))) ⌝ }
 {
+    let id = ix.identity;
     if r.len() < ALGORITHMS_LEAST {
         return super::steps::invalid_request();
     }
@@ -82,15 +90,21 @@ pub(crate) fn decide_algorithms(ix: Index, r: &[u8]) -> Decision
     if !structures_fit(r, long) {
         return super::steps::invalid_request();
     }
-    if !bit_set(wire::get_u32le(r, 8), ix.signature) {
+    if !bit_set(wire::get_u32le(r, 8), id.signature) {
         return super::steps::invalid_request();
     }
-    if !bit_set(wire::get_u32le(r, 12), ix.hash) {
+    if !bit_set(wire::get_u32le(r, 12), id.hash) {
         return super::steps::invalid_request();
     }
     let selection = selection_for(ix, r);
-    Decision::Algorithms {
-        length: long,
-        selection,
+    let exchange = super::steps::complete(Part::A, long, ALGORITHMS_LENGTH);
+    Decision::Accepted {
+        message: Message::Algorithms,
+        negotiated: Negotiated {
+            phase: ALGORITHMS_PHASE,
+            selection,
+            ..n
+        },
+        exchange,
     }
 }

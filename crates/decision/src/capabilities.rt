@@ -1,9 +1,13 @@
 // GET_CAPABILITIES.
-use model::Decision;
-use model::limits::CAPABILITIES_LAYOUT;
-use model::limits::PEER_LEAST;
+use rules::Decision;
+use rules::Message;
+use rules::Negotiated;
+use rules::Part;
+use rules::limits::CAPABILITIES_LAYOUT;
+use rules::limits::CAPABILITIES_PHASE;
+use rules::limits::PEER_LEAST;
 ghost use mathlib.Core.Path.{_≡_};
-ghost use Rattle.model.specs.Capabilities.{capabilitiesDecision};
+ghost use Rattle.rules.specs.Capabilities.{capabilitiesDecision};
 
 pub(crate) fn decide_capabilities(r: &[u8]) -> Decision
     ensures { λ d. ⌜ d ≡ capabilitiesDecision (now (r .entry)) ⌝ }
@@ -18,5 +22,17 @@ pub(crate) fn decide_capabilities(r: &[u8]) -> Decision
     if wire::get_u32le(r, 16) < peer {
         return super::steps::invalid_request();
     }
-    Decision::Capabilities { peer }
+    let fresh = state::fresh();
+    let n = fresh.negotiated;
+    let negotiated = Negotiated {
+        phase: CAPABILITIES_PHASE,
+        peer,
+        ..n
+    };
+    let exchange = super::steps::complete(Part::A, CAPABILITIES_LAYOUT, CAPABILITIES_LAYOUT);
+    Decision::Accepted {
+        message: Message::Capabilities,
+        negotiated,
+        exchange,
+    }
 }

@@ -2,17 +2,17 @@
 use image::Index;
 use image::SlotCheck;
 use image::SlotNumber;
-use model::Decision;
-use model::State;
-use model::limits::B_LIMIT;
-use model::limits::CERTIFICATE_HEAD;
-use model::limits::CERTIFICATE_LAYOUT;
-use model::limits::PORTION_LIMIT;
+use rules::Decision;
+use rules::Message;
+use rules::Part;
+use rules::State;
+use rules::limits::CERTIFICATE_HEAD;
+use rules::limits::CERTIFICATE_LAYOUT;
+use rules::limits::PORTION_LIMIT;
 ghost use mathlib.Core.Path.{_≡_};
 ghost use Prim.Native.Nat.{_≤_, _<_, min};
-ghost use Rattle.model.specs.Facts.{factsAt};
-ghost use Rattle.model.specs.Certificate.{portionOf, portionDecision, certificateDecision};
-ghost use Rattle.state.specs.Within.{Within};
+ghost use Rattle.rules.specs.Facts.{factsAt};
+ghost use Rattle.rules.specs.Certificate.{portionOf, portionDecision, certificateDecision};
 
 fn least(a: usize, b: usize) -> usize
     ensures { λ r. ⌜ r ≡ min a b ⌝ }
@@ -40,26 +40,20 @@ fn decide_portion(
     left: usize,
     portion: usize,
 ) -> Decision
-    requires { ⌜ (Within s) × (portion ≤ left) × (left < 65536) ⌝ }
+    requires { ⌜ (portion ≤ left) × (left < 65536) ⌝ }
     ensures { λ d. ⌜ d ≡ portionDecision s (slot .0) offset left portion ⌝ }
 {
-    let size = CERTIFICATE_HEAD + portion;
-    super::steps::size_steps(
-        s,
-        size,
-        s.b as usize + (CERTIFICATE_LAYOUT + size),
-        B_LIMIT,
-        Decision::Certificate {
-            slot,
-            offset,
-            portion,
-            remainder: left - portion,
-        },
-    )
+    let x = super::steps::complete(Part::B, CERTIFICATE_LAYOUT, CERTIFICATE_HEAD + portion);
+    let m = Message::Certificate {
+        slot,
+        offset,
+        portion,
+        remainder: left - portion,
+    };
+    super::steps::size_steps(s, m, x)
 }
 
 pub(crate) fn decide_certificate(image: &[u8], ix: Index, s: State, r: &[u8]) -> Decision
-    requires { ⌜ Within s ⌝ }
     ensures { λ d. ⌜ d ≡ certificateDecision (factsAt (now (image .entry)) ix) s (now (r .entry)) ⌝ }
 {
     if r.len() < CERTIFICATE_LAYOUT {
@@ -69,7 +63,7 @@ pub(crate) fn decide_certificate(image: &[u8], ix: Index, s: State, r: &[u8]) ->
     let SlotCheck::Slot(slot) = checked else {
         return super::steps::invalid_request();
     };
-    let long = lookup::chain_length(image, ix, slot);
+    let long = image_lookup::chain_length(image, ix, slot);
     if long == 0 {
         return super::steps::invalid_request();
     }
@@ -82,5 +76,6 @@ pub(crate) fn decide_certificate(image: &[u8], ix: Index, s: State, r: &[u8]) ->
         return super::steps::invalid_request();
     }
     let left = long - offset;
-    decide_portion(s, slot, offset, left, portion_of(asked, left, s.peer))
+    let n = s.negotiated;
+    decide_portion(s, slot, offset, left, portion_of(asked, left, n.peer))
 }

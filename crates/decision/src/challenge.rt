@@ -1,32 +1,36 @@
 // CHALLENGE.
 use image::Index;
 use image::SlotCheck;
-use model::Decision;
-use model::State;
-use model::limits::B_LIMIT;
-use model::limits::CHALLENGE_LAYOUT;
+use rules::Decision;
+use rules::Exchange;
+use rules::Message;
+use rules::Negotiated;
+use rules::Part;
+use rules::State;
+use rules::limits::ALL_MEASUREMENTS;
+use rules::limits::AWAITS_CHALLENGE;
+use rules::limits::CHALLENGE_LAYOUT;
+use rules::limits::TCB_MEASUREMENTS;
 ghost use mathlib.Core.Path.{_≡_};
-ghost use Rattle.model.specs.Facts.{factsAt};
-ghost use Rattle.model.specs.Challenge.{summaryFits, challengeDecision};
-ghost use Rattle.state.specs.Within.{Within};
+ghost use Rattle.rules.specs.Facts.{factsAt};
+ghost use Rattle.rules.specs.Challenge.{summaryFits, challengeDecision};
 
-fn summary_fits(s: State, x: u8) -> bool
-    ensures { λ r. ⌜ r ≡ summaryFits s x ⌝ }
+fn summary_fits(n: Negotiated, x: u8) -> bool
+    ensures { λ r. ⌜ r ≡ summaryFits n x ⌝ }
 {
     if x == 0 {
         return true;
     }
-    if s.selection == 0 {
+    if n.selection == 0 {
         return false;
     }
-    if x == 1 {
+    if x == TCB_MEASUREMENTS {
         return true;
     }
-    x == 0xFF
+    x == ALL_MEASUREMENTS
 }
 
 pub(crate) fn decide_challenge(image: &[u8], ix: Index, s: State, r: &[u8]) -> Decision
-    requires { ⌜ Within s ⌝ }
     ensures { λ d. ⌜ d ≡ challengeDecision (factsAt (now (image .entry)) ix) s (now (r .entry)) ⌝ }
 {
     if r.len() < CHALLENGE_LAYOUT {
@@ -36,19 +40,21 @@ pub(crate) fn decide_challenge(image: &[u8], ix: Index, s: State, r: &[u8]) -> D
     let SlotCheck::Slot(slot) = checked else {
         return super::steps::invalid_request();
     };
-    if lookup::chain_length(image, ix, slot) == 0 {
+    if image_lookup::chain_length(image, ix, slot) == 0 {
         return super::steps::invalid_request();
     }
     let x = r[3];
-    if !summary_fits(s, x) {
+    let n = s.negotiated;
+    if !summary_fits(n, x) {
         return super::steps::invalid_request();
     }
-    let n = sizes::challenge_size(ix, x);
-    super::steps::size_steps(
-        s,
-        n + image::signature_size(ix.signature),
-        s.b as usize + (CHALLENGE_LAYOUT + n),
-        B_LIMIT,
-        Decision::Challenge { slot, summary: x },
-    )
+    let id = ix.identity;
+    let exchange = Exchange {
+        part: Part::B,
+        layout: CHALLENGE_LAYOUT,
+        length: super::sizes::challenge_size(ix, x),
+        signature: image::signature_size(id.signature),
+        whose: AWAITS_CHALLENGE,
+    };
+    super::steps::size_steps(s, Message::Challenge { slot, summary: x }, exchange)
 }

@@ -1,50 +1,76 @@
-// The steps that every request passes, and those on an answer's size.
+// The steps that every request passes, and those on an exchange.
 use image::Index;
-use model::Decision;
-use model::Kind;
-use model::State;
-use model::limits::FIELDS_STEP;
-use model::limits::INVALID_REQUEST;
-use model::limits::ROOM_STEP;
-use model::limits::UNSPECIFIED;
-use model::limits::VERSION_10;
-use model::limits::VERSION_12;
+use rules::Asked;
+use rules::Awaited;
+use rules::Decision;
+use rules::Exchange;
+use rules::Kind;
+use rules::Message;
+use rules::Negotiated;
+use rules::Part;
+use rules::State;
+use rules::Used;
+use rules::limits::A_LIMIT;
+use rules::limits::ALGORITHMS_PHASE;
+use rules::limits::AWAITS_NOTHING;
+use rules::limits::B_LIMIT;
+use rules::limits::CAPABILITIES_PHASE;
+use rules::limits::CHALLENGE;
+use rules::limits::FIELDS_STEP;
+use rules::limits::GET_CAPABILITIES;
+use rules::limits::GET_CERTIFICATE;
+use rules::limits::GET_DIGESTS;
+use rules::limits::GET_MEASUREMENTS;
+use rules::limits::GET_VERSION;
+use rules::limits::INVALID_REQUEST;
+use rules::limits::M_LIMIT;
+use rules::limits::NEGOTIATE_ALGORITHMS;
+use rules::limits::RESPONSE_TOO_LARGE;
+use rules::limits::ROOM_STEP;
+use rules::limits::SIZE_STEP;
+use rules::limits::UNSPECIFIED;
+use rules::limits::VERSION_10;
+use rules::limits::VERSION_12;
+use rules::limits::VERSION_PHASE;
 ghost use mathlib.Core.Path.{_≡_};
 ghost use mathlib.Core.List.{List};
 ghost use mathlib.Core.Bool.{false};
 ghost use Prim.Native.Nat.{ℕ};
 ghost use lib.Dec.{eqb};
 ghost use Rattle.wire.specs.Pick.{pick};
-ghost use Rattle.model.specs.Facts.{factsAt};
-ghost use Rattle.model.specs.Steps.{kindOf, mustWait, serves, versionFor, inPhase, invalid, sizeSteps};
+ghost use Rattle.rules.specs.Facts.{factsAt};
+ghost use Rattle.rules.specs.Limits.{algorithmsPhase, awaitsNothing};
+ghost use Rattle.rules.specs.Parts.{limitOf, countOf};
+ghost use Rattle.rules.specs.Steps.{kindOf, mustWait, serves, versionFor, inPhase, refusal, invalid, sizeSteps};
+ghost use Rattle.decision.specs.Small.{Small};
 
 // What a request code asks for: every code that is not served, RESPOND_IF_READY included, is unsupported.
-pub(crate) fn kind_of(code: u8) -> Kind
+pub(crate) fn kind_of(code: u8) -> Asked
     ensures { λ r. ⌜ r ≡ kindOf code ⌝ }
 {
     match code {
-        0x84 => Kind::Version,
-        0xE1 => Kind::Capabilities,
-        0xE3 => Kind::Algorithms,
-        0x81 => Kind::Digests,
-        0x82 => Kind::Certificate,
-        0x83 => Kind::Challenge,
-        0xE0 => Kind::Measurements,
-        0..=0x80 => Kind::Unsupported,
-        0x85..=0xDF => Kind::Unsupported,
-        0xE2 => Kind::Unsupported,
-        0xE4..=0xFF => Kind::Unsupported,
+        GET_VERSION => Asked::Served(Kind::Version),
+        GET_CAPABILITIES => Asked::Served(Kind::Capabilities),
+        NEGOTIATE_ALGORITHMS => Asked::Served(Kind::Algorithms),
+        GET_DIGESTS => Asked::Served(Kind::Digests),
+        GET_CERTIFICATE => Asked::Served(Kind::Certificate),
+        CHALLENGE => Asked::Served(Kind::Challenge),
+        GET_MEASUREMENTS => Asked::Served(Kind::Measurements),
+        0..=0x80 => Asked::Unserved,
+        0x85..=0xDF => Asked::Unserved,
+        0xE2 => Asked::Unserved,
+        0xE4..=0xFF => Asked::Unserved,
     }
 }
 
 // Step 3: a signature is awaited, and this is no GET_VERSION.
-pub(crate) fn must_wait(s: State, code: u8) -> bool
-    ensures { λ r. ⌜ r ≡ mustWait s code ⌝ }
+pub(crate) fn must_wait(w: Awaited, code: u8) -> bool
+    ensures { λ r. ⌜ r ≡ mustWait w code ⌝ }
 {
-    if s.awaited == 0 {
+    if w.whose == AWAITS_NOTHING {
         return false;
     }
-    if code == 0x84 {
+    if code == GET_VERSION {
         return false;
     }
     true
@@ -62,7 +88,6 @@ pub(crate) fn serves_kind(ix: Index, k: Kind) -> bool
         Kind::Certificate => true,
         Kind::Challenge => true,
         Kind::Measurements => 0 < ix.measurements,
-        Kind::Unsupported => false,
     }
 }
 
@@ -78,57 +103,109 @@ pub(crate) fn version_for(k: Kind) -> u8
         Kind::Certificate => VERSION_12,
         Kind::Challenge => VERSION_12,
         Kind::Measurements => VERSION_12,
-        Kind::Unsupported => VERSION_12,
     }
 }
 
-fn measures(s: State) -> bool
-    ensures { λ r. ⌜ r ≡ pick (eqb (s .phase) 3) (eqb (s .selection) 1) false ⌝ }
+fn measures(n: Negotiated) -> bool
+    ensures { λ r. ⌜ r ≡ pick (eqb (n .phase) algorithmsPhase) (eqb (n .selection) 1) false ⌝ }
 {
-    if s.phase != 3 {
+    if n.phase != ALGORITHMS_PHASE {
         return false;
     }
-    s.selection == 1
+    n.selection == 1
 }
 
 // Step 6.
-pub(crate) fn in_phase(s: State, k: Kind) -> bool
-    ensures { λ r. ⌜ r ≡ inPhase s k ⌝ }
+pub(crate) fn in_phase(n: Negotiated, k: Kind) -> bool
+    ensures { λ r. ⌜ r ≡ inPhase n k ⌝ }
 {
     match k {
         Kind::Version => true,
-        Kind::Capabilities => s.phase == 1,
-        Kind::Algorithms => s.phase == 2,
-        Kind::Digests => s.phase == 3,
-        Kind::Certificate => s.phase == 3,
-        Kind::Challenge => s.phase == 3,
-        Kind::Measurements => measures(s),
-        Kind::Unsupported => false,
+        Kind::Capabilities => n.phase == VERSION_PHASE,
+        Kind::Algorithms => n.phase == CAPABILITIES_PHASE,
+        Kind::Digests => n.phase == ALGORITHMS_PHASE,
+        Kind::Certificate => n.phase == ALGORITHMS_PHASE,
+        Kind::Challenge => n.phase == ALGORITHMS_PHASE,
+        Kind::Measurements => measures(n),
     }
 }
 
-pub(crate) fn refusal(step: u8, code: u8, extra: u8) -> Decision
-    ensures { λ r. ⌜ r ≡ Decision.Error step code extra ⌝ }
+pub(crate) fn refused(step: u8, code: u8, extra: u8) -> Decision
+    ensures { λ r. ⌜ r ≡ refusal step code extra ⌝ }
 {
-    Decision::Error { step, code, extra }
+    Decision::Refused {
+        step,
+        code,
+        extra,
+        size: 0,
+    }
 }
 
 // Step 7 refuses with this.
 pub(crate) fn invalid_request() -> Decision
     ensures { λ r. ⌜ r ≡ invalid ⌝ }
 {
-    refusal(FIELDS_STEP, INVALID_REQUEST, 0)
+    refused(FIELDS_STEP, INVALID_REQUEST, 0)
 }
 
-// Steps 8 and 9.
-pub(crate) fn size_steps(s: State, size: usize, used: usize, limit: u32, next: Decision) -> Decision
-    ensures { λ r. ⌜ r ≡ sizeSteps s size used limit next ⌝ }
+// The exchange of an answer that is complete.
+pub(crate) fn complete(part: Part, layout: usize, length: usize) -> Exchange
+    ensures { λ x. ⌜ x ≡ record { part = part; layout = layout; length = length; signature = 0; whose = awaitsNothing } ⌝ }
 {
-    if (s.peer as usize) < size {
-        return Decision::TooLarge { size };
+    Exchange {
+        part,
+        layout,
+        length,
+        signature: 0,
+        whose: AWAITS_NOTHING,
     }
-    if (limit as usize) < used {
-        return refusal(ROOM_STEP, UNSPECIFIED, 0);
+}
+
+fn limit_of(p: Part) -> u32
+    ensures { λ r. ⌜ r ≡ limitOf p ⌝ }
+{
+    match p {
+        Part::A => A_LIMIT,
+        Part::B => B_LIMIT,
+        Part::M => M_LIMIT,
     }
-    next
+}
+
+fn count_of(p: Part, u: Used) -> u32
+    ensures { λ r. ⌜ r ≡ countOf p u ⌝ }
+{
+    match p {
+        Part::A => u.a,
+        Part::B => u.b,
+        Part::M => u.m,
+    }
+}
+
+// Steps 8 and 9; what passed them is accepted.
+pub(crate) fn size_steps(s: State, m: Message, x: Exchange) -> Decision
+    requires { ⌜ Small x ⌝ }
+    ensures { λ r. ⌜ r ≡ sizeSteps s m x ⌝ }
+{
+    let n = s.negotiated;
+    let used = s.used;
+    let part = x.part;
+    let whole = x.length + x.signature;
+    if (n.peer as usize) < whole {
+        return Decision::Refused {
+            step: SIZE_STEP,
+            code: RESPONSE_TOO_LARGE,
+            extra: 0,
+            size: whole,
+        };
+    }
+    let limit = limit_of(part) as usize;
+    let count = count_of(part, used) as usize;
+    if limit < count + (x.layout + x.length) {
+        return refused(ROOM_STEP, UNSPECIFIED, 0);
+    }
+    Decision::Accepted {
+        message: m,
+        negotiated: n,
+        exchange: x,
+    }
 }

@@ -5,8 +5,8 @@ use crate::show::print;
 use crate::show::print_bytes;
 use crate::show::print_number;
 use crate::show::print_sum;
-use model::Reply;
-use model::State;
+use rules::Reply;
+use rules::State;
 
 // The codes of the requests.
 pub const GET_VERSION: u8 = 0x84;
@@ -40,6 +40,12 @@ const PORTION: u16 = 1024;
 
 const PORTIONS: u16 = 4;
 
+// Whose signature the state awaits, 0 for none.
+fn awaited(s: State) -> u32 {
+    let w = s.awaited;
+    w.whose
+}
+
 // What was answered, or the number that the host sees.
 fn print_reply(reply: Reply, answer: &[u8]) {
     print(b" -> ");
@@ -56,7 +62,7 @@ fn print_reply(reply: Reply, answer: &[u8]) {
 // What the chip is to sign: the prefix, and the hash over two parts of the transcript.
 fn print_signed(s: State, transcript: &[u8]) {
     let mut prefix = [0u8; PREFIX];
-    signing::write_prefix(s.awaited, &mut prefix);
+    signing::write_prefix(awaited(s), &mut prefix);
     print(b" [prefix of ");
     print_sum(&prefix);
     print(b"; hashed ");
@@ -103,7 +109,7 @@ pub fn ask(
         request,
         b"the responder's nonce, 32 bytes.",
     );
-    if o.state.awaited != 0 {
+    if awaited(o.state) != 0 {
         return finish(image, o.state, transcript, answer);
     }
     let reply = o.reply;

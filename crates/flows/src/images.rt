@@ -1,5 +1,13 @@
 // The images that the flows run on, put together record by record. All have CTExponent 14, SHA-256 and P-256.
-use report::put;
+
+// Puts bytes from a place on, and answers where they end.
+fn put(out: &mut [u8], at: usize, bytes: &[u8]) -> usize {
+    wire::copy_into(out, at, bytes);
+    if usize::MAX - at < bytes.len() {
+        return at;
+    }
+    at + bytes.len()
+}
 
 // Bytes that go up by one, modulo 256.
 fn put_rising(out: &mut [u8], at: usize, first: u8, count: u16) -> usize {

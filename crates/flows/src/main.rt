@@ -13,7 +13,7 @@ use connection::NEGOTIATE_ALGORITHMS;
 use connection::ask;
 use connection::challenge;
 use connection::run;
-use model::State;
+use rules::State;
 use show::print;
 use show::print_number;
 use show::print_sum;

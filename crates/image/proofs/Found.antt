@@ -15,11 +15,11 @@ use Rattle.image.proofs.Given.{held}
 -- numbers of the index
 
 module _ {b : List ℕ} {ix : Index} {c : Contents} (r : ReadAs b ix c) where
-  pub size-is : digestSize (ix .hash) ≡ digestSize (c .hash)
-  size-is = ap (λ (i : Index). digestSize (i .hash)) (r .indexed)
+  pub size-is : digestSize (ix .identity .hash) ≡ digestSize (c .identity .hash)
+  size-is = ap (λ (i : Index). digestSize (i .identity .hash)) (r .indexed)
 
-  pub signature-is : signatureSize (ix .signature) ≡ signatureSize (c .signature)
-  signature-is = ap (λ (i : Index). signatureSize (i .signature)) (r .indexed)
+  pub signature-is : signatureSize (ix .identity .signature) ≡ signatureSize (c .identity .signature)
+  signature-is = ap (λ (i : Index). signatureSize (i .identity .signature)) (r .indexed)
 
   pub count-is : ix .measurements ≡ length (c .measurements)
   count-is = ap (λ (i : Index). i .measurements) (r .indexed)

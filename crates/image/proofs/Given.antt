@@ -23,7 +23,7 @@ module _ {b : List ℕ} {ix : Index} {c : Contents} (y : Bytes b) (r : ReadAs b 
   pub fine-index : Fine ix
   fine-index =
       let v = valid in
-      subst Fine (sym (r .indexed)) (record { hash = v .hash; signature = v .signature; chains = v .fewChains; measurements = v .fewMeasurements })
+      subst Fine (sym (r .indexed)) (record { identity = v .identity; chains = v .fewChains; measurements = v .fewMeasurements })
 
 pub known-fine : {b : List ℕ} {ix : Index} → Bytes b → Known b ix → Fine ix
 known-fine y k = fine-index y (k .same)

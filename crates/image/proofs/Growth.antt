@@ -13,10 +13,10 @@ use borrow.Author.Tests.{ltb-false, leb-false, eqb-true, eqb-false}
 use Rattle.wire.specs.Bytes.{leAt}
 use Rattle.wire.specs.Pick.{pick}
 use Rattle.wire.proofs.Picks.{either, not-first, not-second}
-use Rattle.image.specs.Limits.{imageVersion, identityKind, chainKind, measurementKind, summaryKind, chainLimit, chainLeast}
+use Rattle.image.specs.Limits.{imageVersion, identityLength, identityKind, chainKind, measurementKind, summaryKind, chainLimit, chainLeast}
 use Rattle.image.specs.Sizes.{digestSize}
 use Rattle.image.specs.Contents.{Chain, Measurement, Summary, Contents, identityBody, chainBody, measurementBody, summaryBody, recordBytes, recordsBytes, identityBytes, imageBytes, ValidChain, ValidMeasurement, ValidSummary}
-use Rattle.image.specs.Reading.{Result, number, found, unless, Frames, ended, broken, frame, seen, identityFault, chainFault, measurementFault, summaryFault, recordFault, endFault, chainIn, measurementIn, summaryIn, identified, addChain, addMeasurement, addSummary, extended, readOn, readAll}
+use Rattle.image.specs.Reading.{Result, number, found, unless, Frames, ended, broken, frame, seen, identityFault, chainFault, measurementFault, summaryFault, recordFault, endFault, identityIn, chainIn, measurementIn, summaryIn, identified, addChain, addMeasurement, addSummary, extended, readOn, readAll}
 use Rattle.image.proofs.Framed.{joined, Whole, empty, heads}
 use Rattle.image.proofs.Sound.{Sound, chains-more, measurements-more, summaries-more}
 use Rattle.image.proofs.Sizes.{digest-most}
@@ -53,16 +53,18 @@ pub record Grown (start : List ℕ) (kind : ℕ) (body : List ℕ) (more : Conte
   pub bytes : imageBytes more ≡ start ++ recordBytes kind body
   pub short : length body < 65536
 
-pub identity-grown : (body : List ℕ) → identityFault body ≡ 0 → Grown (imageVersion ∷ []) identityKind body (identified body)
+-- a body of an identity's length is that of the identity in it
+pub identity-body : (body : List ℕ) → length body ≡ identityLength → identityBody (identityIn body) ≡ body
+identity-body body e = let l = length-drop 3 body in cc (heads body (omega arith), empty (drop 3 body) (omega arith))
+
+pub identity-grown : (body : List ℕ) → identityFault body ≡ 0 → Grown (imageVersion ∷ []) identityKind body (identified (identityIn body))
 unfolding identityFault imageBytes identityBytes recordsBytes
 identity-grown body e =
     let a₁ = met _ _ _ e in
     let a₂ = unmet _ _ _ (a₁ .1) in
     let a₃ = unmet _ _ _ (a₂ .1) in
     let a₄ = unmet _ _ _ (a₃ .1) in
-    let t₁ : length body ≡ 3 = eqb-true _ _ (a₁ .0) in
-    let l = length-drop 3 body in
-    let b : identityBody (identified body) ≡ body = cc (heads body (omega arith), empty (drop 3 body) (omega arith)) in
+    let t₁ : length body ≡ identityLength = eqb-true _ _ (a₁ .0) in
     record {
       sound = record {
         identity = record { exponent = ltb-false _ _ (a₂ .0); hash = ltb-false _ _ (a₃ .0); signature = ltb-false _ _ (a₄ .0) };
@@ -71,7 +73,7 @@ identity-grown body e =
         summaries = record { each = tt; few = omega arith; order = tt };
         behind = omega arith;
       };
-      bytes = rw (append-nil (identityBytes (identified body)), b);
+      bytes = rw (append-nil (identityBytes (identified (identityIn body))), identity-body body t₁);
       short = omega arith;
     }
 
@@ -79,10 +81,10 @@ identity-grown body e =
 pub own-length : (s : List ℕ) (n : ℕ) → leAt 2 (drop n s) 0 ≡ leAt 2 s n
 own-length s n = simp (getD-drop, add-zero)
 
-chain-grown : (c : Contents) (body : List ℕ) → Sound c → chainFault (seen c) body ≡ 0 → Grown (imageBytes c) chainKind body (addChain c (chainIn (digestSize (c .hash)) body))
+chain-grown : (c : Contents) (body : List ℕ) → Sound c → chainFault (seen c) body ≡ 0 → Grown (imageBytes c) chainKind body (addChain c (chainIn (digestSize (c .identity .hash)) body))
 unfolding chainFault
 chain-grown c body s e =
-    let h = digestSize (c .hash) in
+    let h = digestSize (c .identity .hash) in
     let x = chainIn h body in
     let a₁ = unmet _ _ _ e in
     let a₂ = unmet _ _ _ (a₁ .1) in
@@ -99,7 +101,7 @@ chain-grown c body s e =
     let l₂ = length-drop 1 body in
     let d : length (take h (drop 1 body)) ≡ h = length-take-le h (drop 1 body) (omega arith) in
     let o = own-length body (1 + h) in
-    let m = digest-most (c .hash) in
+    let m = digest-most (c .identity .hash) in
     let v : ValidChain h x = record { slot = ltb-false _ _ (a₅ .0); digest = d; least = omega arith; most = omega arith; own = omega arith } in
     let b : body ≡ chainBody x = rw (← drop-drop h 1 body, take-append-drop) (drop-cons body 0 0 (omega arith)) in
     record {
@@ -118,7 +120,7 @@ chain-grown c body s e =
 measurement-grown : (c : Contents) (body : List ℕ) → Sound c → measurementFault (seen c) body ≡ 0 → Grown (imageBytes c) measurementKind body (addMeasurement c (measurementIn body))
 unfolding measurementFault
 measurement-grown c body s e =
-    let h = digestSize (c .hash) in
+    let h = digestSize (c .identity .hash) in
     let x = measurementIn body in
     let a₁ = unmet _ _ _ e in
     let a₂ = unmet _ _ _ (a₁ .1) in
@@ -130,7 +132,7 @@ measurement-grown c body s e =
     let t₂ : length (c .summaries) ≤ 0 = ltb-false _ _ (a₂ .0) in
     let t₄ : length body ≡ 2 + h = eqb-true _ _ (a₄ .0) in
     let l = length-drop 2 body in
-    let m = digest-most (c .hash) in
+    let m = digest-most (c .identity .hash) in
     let v : ValidMeasurement h x = record { index = ltb-false _ _ (a₆ .0); type = ltb-false _ _ (a₇ .0); digest = omega arith } in
     let b : body ≡ measurementBody x = cc (drop-cons body 0 0 (omega arith), drop-cons body 1 0 (omega arith)) in
     record {
@@ -145,10 +147,10 @@ measurement-grown c body s e =
       short = omega arith;
     }
 
-summary-grown : (c : Contents) (body : List ℕ) → Sound c → summaryFault (seen c) body ≡ 0 → Grown (imageBytes c) summaryKind body (addSummary c (summaryIn (digestSize (c .hash)) body))
+summary-grown : (c : Contents) (body : List ℕ) → Sound c → summaryFault (seen c) body ≡ 0 → Grown (imageBytes c) summaryKind body (addSummary c (summaryIn (digestSize (c .identity .hash)) body))
 unfolding summaryFault
 summary-grown c body s e =
-    let h = digestSize (c .hash) in
+    let h = digestSize (c .identity .hash) in
     let x = summaryIn h body in
     let a₁ = unmet _ _ _ e in
     let a₂ = unmet _ _ _ (a₁ .1) in
@@ -159,7 +161,7 @@ summary-grown c body s e =
     let l₁ : length (take h body) ≡ h = length-take-le h body (omega arith) in
     let l₂ = length-drop h body in
     let l₃ = length-append (c .summaries) (x ∷ []) in
-    let m = digest-most (c .hash) in
+    let m = digest-most (c .identity .hash) in
     let v : ValidSummary h x = record { tcb = l₁; all = omega arith } in
     record {
       sound = record {
@@ -237,4 +239,4 @@ read-all (frame kind body rest) z e =
     let a = not-second _ _ _ _ e (number-found _ _) in
     let p = passed _ _ _ (a .1) in
     let g = identity-grown body (p .0) in
-    rw (eqb-true kind identityKind (a .0)) (before _ _ _ _ _ _ g (read-on (identified body) rest z (g .sound) (p .1)))
+    rw (eqb-true kind identityKind (a .0)) (before _ _ _ _ _ _ g (read-on (identified (identityIn body)) rest z (g .sound) (p .1)))

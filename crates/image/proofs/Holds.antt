@@ -37,8 +37,8 @@ holds c v =
     let ss : List ℕ = recordsBytes summaryKind summaryBody (c .summaries) in
     let s₁ : Stands b (length (identityBytes c)) (cs ++ (ms ++ ss)) = at-end (identityBytes c) (cs ++ (ms ++ ss)) in
     let s₂ : Stands b (chainsEnd c) (ms ++ ss) = rw length-append (behind cs (ms ++ ss) s₁) in
-    let kept : (k : ℕ) → Kept (digestSize (c .hash)) b k (placeIn ix k) (chainFor k (c .chains)) =
-    place-kept (digestSize (c .hash)) b ix (length (identityBytes c)) (c .chains) (v .chains) (v .slots) (front cs (ms ++ ss) s₁) refl in
+    let kept : (k : ℕ) → Kept (digestSize (c .identity .hash)) b k (placeIn ix k) (chainFor k (c .chains)) =
+    place-kept (digestSize (c .identity .hash)) b ix (length (identityBytes c)) (c .chains) (v .chains) (v .slots) (front cs (ms ++ ss) s₁) refl in
     let read : (k : ℕ) → nthAt b ix k ≡ nthMeasurement c k =
     nth-read b ix (chainsEnd c) (c .measurements) refl refl (v .measurements) (front ms ss s₂) in
     let sums = summaries-read b ix (chainsEnd c) (c .measurements) refl refl (v .measurements) (c .summaries) (v .summaries) (v .summed) s₂ in
@@ -46,7 +46,7 @@ holds c v =
       digests = λ k. digest-read b ix k (chainFor k (c .chains)) (kept k);
       lengths = λ k. length-read b ix k (chainFor k (c .chains)) (kept k);
       portions = λ k. part-read b ix k (chainFor k (c .chains)) (kept k);
-      mask = mask-kept (digestSize (c .hash)) (length (identityBytes c)) (c .chains) (v .chains) (v .slots);
+      mask = mask-kept (digestSize (c .identity .hash)) (length (identityBytes c)) (c .chains) (v .chains) (v .slots);
       nth = read;
       byIndex = λ i. search-finds b ix i (c .measurements) 0 (λ j. rw zero-add (read j));
       tcb = sums .0;

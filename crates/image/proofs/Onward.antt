@@ -12,13 +12,14 @@ use borrow.Author.Tests.{ne-eqb}
 use Rattle.wire.specs.Bytes.{leAt}
 use Rattle.wire.specs.Pick.{pick}
 use Rattle.wire.proofs.Picks.{picks, pick-yes, pick-no}
-use Rattle.image.specs.Limits.{imageLimit, imageVersion, identityKind, chainKind, measurementKind, summaryKind, exponentLimit, hashLimit, signatureLimit, slotLimit, chainsLimit, chainLeast, chainLimit, indexLimit, typeLimit, measurementsLimit}
+use Rattle.image.specs.Limits.{imageLimit, imageVersion, identityKind, chainKind, measurementKind, summaryKind, slotLimit, chainsLimit, chainLeast, chainLimit, indexLimit, typeLimit, measurementsLimit}
 use Rattle.image.specs.Sizes.{digestSize}
-use Rattle.image.specs.Contents.{Chain, Measurement, Summary, Contents, identityBody, chainBody, measurementBody, summaryBody, recordBytes, imageBytes, slots, indices}
+use Rattle.image.specs.Contents.{Chain, Measurement, Summary, Contents, identityBody, chainBody, measurementBody, summaryBody, recordBytes, imageBytes, ValidIdentity, slots, indices}
+use Rattle.image.specs.declared.Identity.{Identity}
 use Rattle.image.specs.Reading.{Result, unless, Frames, frame, lastOf, seen, identityFault, slotWrong, chainFault, measurementFault, summaryFault, recordFault, chainIn, summaryIn, addChain, addMeasurement, addSummary, extended, readOn, readAll, reading}
 use Rattle.image.proofs.Framed.{joined, Whole, apart}
 use Rattle.image.proofs.Rising.{grows}
-use Rattle.image.proofs.Sound.{Identity, Sound, chains-more, measurements-more, summaries-more}
+use Rattle.image.proofs.Sound.{Sound, chains-more, measurements-more, summaries-more}
 use Rattle.image.proofs.Growth.{own-length, identity-grown, grown}
 
 -- without their last element contents are sound, and its record, read from there on, has no fault and gives the element back
@@ -30,7 +31,7 @@ pub record Read (c : Contents) (kind : ℕ) (body : List ℕ) (more : Contents) 
 chain-read : (c : Contents) (x : Chain) → length (c .measurements) ≡ 0 → Sound (addChain c x) → Read c chainKind (chainBody x) (addChain c x)
 unfolding recordFault chainFault extended
 chain-read c x n s =
-    let h = digestSize (c .hash) in
+    let h = digestSize (c .identity .hash) in
     let body = chainBody x in
     let p = chains-more h (c .chains) x .0 (s .chains) in
     let v = p .1 .fine in
@@ -53,7 +54,7 @@ chain-read c x n s =
 measurement-read : (c : Contents) (m : Measurement) → 1 ≤ length (c .chains) → length (c .summaries) ≡ 0 → Sound (addMeasurement c m) → Read c measurementKind (measurementBody m) (addMeasurement c m)
 unfolding recordFault measurementFault extended
 measurement-read c m k n s =
-    let h = digestSize (c .hash) in
+    let h = digestSize (c .identity .hash) in
     let p = measurements-more h (c .measurements) m .0 (s .measurements) in
     let v = p .1 .fine in
     let t₁ : eqb (length (c .chains)) 0 ≡ false = ne-eqb (length (c .chains)) 0 (λ z. omega arith) in
@@ -72,7 +73,7 @@ measurement-read c m k n s =
 summary-read : (c : Contents) (x : Summary) → Sound (addSummary c x) → Read c summaryKind (summaryBody x) (addSummary c x)
 unfolding recordFault summaryFault extended
 summary-read c x s =
-    let h = digestSize (c .hash) in
+    let h = digestSize (c .identity .hash) in
     let p = summaries-more h (c .summaries) x .0 (s .summaries) in
     let v = p .1 .fine in
     let i : summaryIn h (summaryBody x) ≡ x = rw (take-at (x .tcb) (x .all) h (v .tcb), drop-at (x .tcb) (x .all) h (v .tcb)) in
@@ -87,13 +88,9 @@ summary-read c x s =
       back = pick-no _ _ _ _ refl (pick-no _ _ _ _ refl (ap (addSummary c) (sym i)));
     }
 
-identity-read : (c : Contents) → Identity (c .exponent) (c .hash) (c .signature) → 0 ≡ identityFault (identityBody c)
+identity-read : (i : Identity) → ValidIdentity i → 0 ≡ identityFault (identityBody i)
 unfolding identityFault
-identity-read c v =
-    let t₁ : c .exponent ≤ exponentLimit = v .exponent in
-    let t₂ : c .hash ≤ hashLimit = v .hash in
-    let t₃ : c .signature ≤ signatureLimit = v .signature in
-    search picks depth 12
+identity-read i v = search picks depth 12
 
 -- where there is no fault, what follows is read
 pub on : {A : Type 0} (k : ℕ) (r : Result A) → 0 ≡ k → unless k r ≡ r
@@ -123,15 +120,15 @@ records f w l =
 
 -- contents with c's identity
 abbrev holding : Contents → List Chain → List Measurement → List Summary → Contents
-holding c xs ms ss = record { exponent = c .exponent; hash = c .hash; signature = c .signature; chains = xs; measurements = ms; summaries = ss }
+holding c xs ms ss = record { identity = c .identity; chains = xs; measurements = ms; summaries = ss }
 
 -- it comes to the identity
-first : (c : Contents) → Identity (c .exponent) (c .hash) (c .signature) → Reached (holding c [] [] [])
+first : (c : Contents) → ValidIdentity (c .identity) → Reached (holding c [] [] [])
 unfolding readAll joined pick
 first c v f w l =
-    let i = identity-read c v in
-    let g = identity-grown (identityBody c) (sym i) in
-    let r = frame identityKind (identityBody c) f in
+    let i = identity-read (c .identity) v in
+    let g = identity-grown (identityBody (c .identity)) (sym i) in
+    let r = frame identityKind (identityBody (c .identity)) f in
     let e : imageBytes (holding c [] [] []) ++ joined f ≡ imageVersion ∷ joined r = ap (λ (l : List ℕ). l ++ joined f) (g .bytes) in
     ap reading e ∙ sym (records r (g .short, w) (subst (λ (l : List ℕ). length l ≤ imageLimit) e l)) ∙ on _ _ i
 

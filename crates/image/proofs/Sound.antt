@@ -11,9 +11,9 @@ use lib.Dec.{eqb}
 use borrow.Author.Tests.{eqb-true, eqb-false, ne-eqb}
 use Rattle.wire.specs.Pick.{pick}
 use Rattle.wire.proofs.Picks.{picks, pick-yes, pick-no, either, not-first}
-use Rattle.image.specs.Limits.{imageLimit, exponentLimit, hashLimit, signatureLimit, chainsLimit, measurementsLimit}
+use Rattle.image.specs.Limits.{imageLimit, chainsLimit, measurementsLimit}
 use Rattle.image.specs.Sizes.{digestSize}
-use Rattle.image.specs.Contents.{Chain, Measurement, Summary, Contents, imageBytes, ValidChain, ValidMeasurement, ValidSummary, Rises, SlotsRise, slots, indices, Valid}
+use Rattle.image.specs.Contents.{Chain, Measurement, Summary, Contents, imageBytes, ValidIdentity, ValidChain, ValidMeasurement, ValidSummary, Rises, SlotsRise, slots, indices, Valid}
 use Rattle.image.specs.Reading.{lastOf, seen, slotWrong, endFault}
 use Rattle.image.proofs.Rising.{Good, Fits, good-more, rises-more, slots-more}
 
@@ -45,17 +45,11 @@ SummaryFits h ss s = Fits (ValidSummary h) 1 (λ (ss : List Summary) (s : Summar
 pub summaries-more : (h : ℕ) (ss : List Summary) (s : Summary) → Summaries h (ss ++ (s ∷ [])) ↔ (Summaries h ss × SummaryFits h ss s)
 summaries-more h = good-more _ _ _ _ (λ ss s. (λ e. (tt, tt), λ e. tt))
 
--- an identity's three numbers in range
-pub record Identity (e h s : ℕ) : Type 0 where
-  pub exponent : e ≤ exponentLimit
-  pub hash : h ≤ hashLimit
-  pub signature : s ≤ signatureLimit
-
 pub record Sound (c : Contents) : Type 0 where
-  pub identity : Identity (c .exponent) (c .hash) (c .signature)
-  pub chains : Chains (digestSize (c .hash)) (c .chains)
-  pub measurements : Measurements (digestSize (c .hash)) (c .measurements)
-  pub summaries : Summaries (digestSize (c .hash)) (c .summaries)
+  pub identity : ValidIdentity (c .identity)
+  pub chains : Chains (digestSize (c .identity .hash)) (c .chains)
+  pub measurements : Measurements (digestSize (c .identity .hash)) (c .measurements)
+  pub summaries : Summaries (digestSize (c .identity .hash)) (c .summaries)
   -- a summary stands behind a measurement
   pub behind : length (c .summaries) ≤ length (c .measurements)
 
@@ -68,9 +62,7 @@ valid c s e size =
     let n : length (c .summaries) ≤ length (c .measurements) = s .behind in
     let m : length (c .summaries) ≤ 1 = s .summaries .few in
     record {
-      exponent = s .identity .exponent;
-      hash = s .identity .hash;
-      signature = s .identity .signature;
+      identity = s .identity;
       chains = s .chains .each;
       someChain = omega arith;
       fewChains = s .chains .few;
@@ -96,7 +88,7 @@ sound c v =
     let u : eqb (length (c .summaries)) 0 ≡ false = ne-eqb (length (c .summaries)) 0 (λ z. omega arith) in
     (omega arith, (omega arith, search picks depth 8))) in (
       record {
-        identity = record { exponent = v .exponent; hash = v .hash; signature = v .signature };
+        identity = v .identity;
         chains = record { each = v .chains; few = v .fewChains; order = v .slots };
         measurements = record { each = v .measurements; few = v .fewMeasurements; order = v .indices };
         summaries = record { each = v .summaries; few = q .0; order = tt };

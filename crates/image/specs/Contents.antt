@@ -6,8 +6,11 @@ use lib.ListN.{length}
 use lib.Dec.{eqb}
 use Rattle.wire.specs.Bytes.{leAt, beBytes}
 use Rattle.wire.specs.Pick.{pick}
-use Rattle.image.specs.Limits.{imageLimit, imageVersion, identityKind, chainKind, measurementKind, summaryKind, exponentLimit, hashLimit, signatureLimit, slotLimit, chainsLimit, chainLeast, chainLimit, indexLimit, typeLimit, measurementsLimit}
+use Rattle.image.specs.Limits.{imageLimit, imageVersion, identityKind, chainKind, measurementKind, summaryKind, exponentLimit}
+use Rattle.image.specs.Limits.{hashLimit, signatureLimit, slotLimit, chainsLimit, chainLeast, chainLimit, indexLimit, typeLimit}
+use Rattle.image.specs.Limits.{measurementsLimit}
 use Rattle.image.specs.Sizes.{digestSize}
+use Rattle.image.specs.declared.Identity.{Identity}
 
 -- a slot's certificate chain and its digest
 pub record Chain : Type 0 where
@@ -25,18 +28,15 @@ pub record Summary : Type 0 where
   pub tcb : List ℕ
   pub all : List ℕ
 
--- hash and signature are bit numbers of BaseHashAlgo and BaseAsymAlgo
 pub record Contents : Type 0 where
-  pub exponent : ℕ
-  pub hash : ℕ
-  pub signature : ℕ
+  pub identity : Identity
   pub chains : List Chain
   pub measurements : List Measurement
   pub summaries : List Summary
 
 -- the bodies of the four kinds of record
-abbrev pub identityBody : Contents → List ℕ
-identityBody c = c .exponent ∷ c .hash ∷ c .signature ∷ []
+abbrev pub identityBody : Identity → List ℕ
+identityBody i = i .exponent ∷ i .hash ∷ i .signature ∷ []
 
 abbrev pub chainBody : Chain → List ℕ
 chainBody x = x .slot ∷ (x .digest ++ x .bytes)
@@ -58,7 +58,7 @@ recordsBytes kind body (x ∷ xs) = recordBytes kind (body x) ++ recordsBytes ki
 
 -- the version byte and the identity record; then the other kinds, in their sequence
 unfoldable pub identityBytes : Contents → List ℕ
-identityBytes c = imageVersion ∷ recordBytes identityKind (identityBody c)
+identityBytes c = imageVersion ∷ recordBytes identityKind (identityBody (c .identity))
 
 unfoldable pub imageBytes : Contents → List ℕ
 imageBytes c =
@@ -66,6 +66,11 @@ imageBytes c =
     ++ (recordsBytes chainKind chainBody (c .chains)
     ++ (recordsBytes measurementKind measurementBody (c .measurements)
     ++ recordsBytes summaryKind summaryBody (c .summaries)))
+
+pub record ValidIdentity (i : Identity) : Type 0 where
+  pub exponent : i .exponent ≤ exponentLimit
+  pub hash : i .hash ≤ hashLimit
+  pub signature : i .signature ≤ signatureLimit
 
 -- a chain of a digest of h bytes; its first two bytes give its whole length
 pub record ValidChain (h : ℕ) (x : Chain) : Type 0 where
@@ -106,16 +111,14 @@ indices ms = map (λ (m : Measurement). m .index) ms
 
 -- the paper's table: one identity, 1–8 chains, 0–32 measurements (indices from 1), and one summary if any measurement, else none
 pub record Valid (c : Contents) : Type 0 where
-  pub exponent : c .exponent ≤ exponentLimit
-  pub hash : c .hash ≤ hashLimit
-  pub signature : c .signature ≤ signatureLimit
-  pub chains : Each (ValidChain (digestSize (c .hash))) (c .chains)
+  pub identity : ValidIdentity (c .identity)
+  pub chains : Each (ValidChain (digestSize (c .identity .hash))) (c .chains)
   pub someChain : 1 ≤ length (c .chains)
   pub fewChains : length (c .chains) ≤ chainsLimit
   pub slots : SlotsRise (slots (c .chains))
-  pub measurements : Each (ValidMeasurement (digestSize (c .hash))) (c .measurements)
+  pub measurements : Each (ValidMeasurement (digestSize (c .identity .hash))) (c .measurements)
   pub fewMeasurements : length (c .measurements) ≤ measurementsLimit
   pub indices : Rises 0 (indices (c .measurements))
-  pub summaries : Each (ValidSummary (digestSize (c .hash))) (c .summaries)
+  pub summaries : Each (ValidSummary (digestSize (c .identity .hash))) (c .summaries)
   pub summed : length (c .summaries) ≡ pick (eqb (length (c .measurements)) 0) 0 1
   pub size : length (imageBytes c) ≤ imageLimit

@@ -5,10 +5,11 @@ use lib.ListN.{length, getD, set, replicate}
 use lib.Dec.{ltb, eqb}
 use Rattle.wire.specs.Bytes.{leAt, part}
 use Rattle.wire.specs.Pick.{pick}
-use Rattle.image.specs.Limits.{headLength, slotCount, slotLimit, indexLimit, chainKind}
+use Rattle.image.specs.Limits.{headLength, slotLength, labelLength, slotCount, slotLimit, indexLimit, chainKind}
 use Rattle.image.specs.Sizes.{digestSize}
 use Rattle.image.specs.Contents.{Chain, Measurement, Contents, chainBody, recordsBytes, identityBytes}
 use Rattle.image.specs.Reading.{Result, number, found}
+use Rattle.image.specs.declared.Identity.{Identity}
 use Rattle.image.specs.declared.Index.{Index}
 use Rattle.image.specs.declared.Image.{Image}
 use Rattle.image.specs.declared.Verdict.the-variants as verdict
@@ -46,17 +47,18 @@ chainsEnd c = length (identityBytes c ++ recordsBytes chainKind chainBody (c .ch
 
 abbrev pub indexOf : Contents → Index
 indexOf c = record {
-  exponent = c .exponent;
-  hash = c .hash;
-  signature = c .signature;
+  identity = c .identity;
   chains = length (c .chains);
   measurements = length (c .measurements);
   places = placesOf (length (identityBytes c)) (c .chains) noPlaces;
   first = firstOf (chainsEnd c) (c .measurements);
 }
 
+abbrev pub noIdentity : Identity
+noIdentity = record { exponent = 0; hash = 0; signature = 0 }
+
 abbrev pub noIndex : Index
-noIndex = record { exponent = 0; hash = 0; signature = 0; chains = 0; measurements = 0; places = noPlaces; first = 0 }
+noIndex = record { identity = noIdentity; chains = 0; measurements = 0; places = noPlaces; first = 0 }
 
 -- the reader's answer: the paper's number, or the index of what was found
 abbrev pub refusedBy : ℕ → Image
@@ -72,19 +74,19 @@ answerOf (found c) = acceptedAt (indexOf c)
 -- lookups by slot
 
 abbrev pub sizeIn : Index → ℕ
-sizeIn ix = digestSize (ix .hash)
+sizeIn ix = digestSize (ix .identity .hash)
 
 unfoldable pub placeIn : Index → ℕ → ℕ
 placeIn ix k = pick (ltb k slotCount) (getD (ix .places) k 0) 0
 
 unfoldable pub digestAt : List ℕ → Index → ℕ → List ℕ
-digestAt b ix k = pick (eqb (placeIn ix k) 0) [] (part b (placeIn ix k + 1) (sizeIn ix))
+digestAt b ix k = pick (eqb (placeIn ix k) 0) [] (part b (placeIn ix k + slotLength) (sizeIn ix))
 
 unfoldable pub chainLengthAt : List ℕ → Index → ℕ → ℕ
-chainLengthAt b ix k = pick (eqb (placeIn ix k) 0) 0 (leAt 2 b (placeIn ix k + (1 + sizeIn ix)))
+chainLengthAt b ix k = pick (eqb (placeIn ix k) 0) 0 (leAt 2 b (placeIn ix k + (slotLength + sizeIn ix)))
 
 unfoldable pub chainPartAt : List ℕ → Index → ℕ → ℕ → ℕ → List ℕ
-chainPartAt b ix k offset len = part (part b (placeIn ix k + (1 + sizeIn ix)) (chainLengthAt b ix k)) offset len
+chainPartAt b ix k offset len = part (part b (placeIn ix k + (slotLength + sizeIn ix)) (chainLengthAt b ix k)) offset len
 
 -- the bits of the filled places, the first of them worth w
 unfoldable pub maskFrom : ℕ → List ℕ → ℕ
@@ -97,7 +99,7 @@ maskAt ix = maskFrom 1 (ix .places)
 -- lookups of measurements: they stand one behind the other, and the summary behind the last
 
 abbrev pub bodyLength : Index → ℕ
-bodyLength ix = 2 + sizeIn ix
+bodyLength ix = labelLength + sizeIn ix
 
 unfoldable pub bodyPlace : Index → ℕ → ℕ
 bodyPlace ix k = ix .first + k * (headLength + bodyLength ix)

@@ -45,6 +45,10 @@ signatureLimit = 8
 abbrev pub slotLimit : ℕ
 slotLimit = 7
 
+-- "slot 0–7, digest (H), chain": the bytes in front of the digest
+abbrev pub slotLength : ℕ
+slotLength = 1
+
 abbrev pub slotCount : ℕ
 slotCount = 8
 
@@ -60,6 +64,10 @@ chainLimit = 4096
 -- kind 3: "index 1–239, type 0–3 .. 0–32"
 abbrev pub indexLimit : ℕ
 indexLimit = 239
+
+-- index and type, in front of the digest
+abbrev pub labelLength : ℕ
+labelLength = 2
 
 abbrev pub typeLimit : ℕ
 typeLimit = 3

@@ -2,8 +2,8 @@
 use mathlib.Core.Path.{_≡_}
 use mathlib.Core.List.{List}
 use Prim.Native.Nat.{ℕ, _≤_}
-use Rattle.image.specs.Limits.{hashLimit, signatureLimit, measurementsLimit, chainsLimit}
-use Rattle.image.specs.Contents.{Contents}
+use Rattle.image.specs.Limits.{measurementsLimit, chainsLimit}
+use Rattle.image.specs.Contents.{Contents, ValidIdentity}
 use Rattle.image.specs.Reading.{reading, found}
 use Rattle.image.specs.Index.{indexOf}
 use Rattle.image.specs.declared.Index.{Index}
@@ -15,8 +15,7 @@ pub record ReadAs (b : List ℕ) (ix : Index) (c : Contents) : Type 0 where
 
 -- numbers of an index that the reader gave
 pub record Fine (ix : Index) : Type 0 where
-  pub hash : ix .hash ≤ hashLimit
-  pub signature : ix .signature ≤ signatureLimit
+  pub identity : ValidIdentity (ix .identity)
   pub chains : ix .chains ≤ chainsLimit
   pub measurements : ix .measurements ≤ measurementsLimit
 

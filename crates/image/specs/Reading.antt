@@ -6,9 +6,13 @@ use lib.ListN.{length, getD, take, drop}
 use lib.Dec.{ltb, leb, eqb}
 use Rattle.wire.specs.Bytes.{leAt, beAt, part}
 use Rattle.wire.specs.Pick.{pick}
-use Rattle.image.specs.Limits.{imageLimit, imageVersion, headLength, identityKind, chainKind, measurementKind, summaryKind, identityLength, exponentLimit, hashLimit, signatureLimit, slotLimit, chainsLimit, chainLeast, chainLimit, indexLimit, typeLimit, measurementsLimit, wrongSize, wrongVersion, brokenRecord, wrongKind, tooMany, wrongLength, wrongField, wrongOwnLength}
+use Rattle.image.specs.Limits.{imageLimit, imageVersion, headLength, identityKind, chainKind, measurementKind, summaryKind}
+use Rattle.image.specs.Limits.{identityLength, exponentLimit, hashLimit, signatureLimit, slotLength, slotLimit, chainsLimit}
+use Rattle.image.specs.Limits.{chainLeast, chainLimit, indexLimit, labelLength, typeLimit, measurementsLimit, wrongSize, wrongVersion}
+use Rattle.image.specs.Limits.{brokenRecord, wrongKind, tooMany, wrongLength, wrongField, wrongOwnLength}
 use Rattle.image.specs.Sizes.{digestSize}
 use Rattle.image.specs.Contents.{Chain, Measurement, Summary, Contents, slots, indices}
+use Rattle.image.specs.declared.Identity.{Identity}
 use Rattle.image.specs.declared.Seen.{Seen}
 
 -- a number that the host sees, or what was found
@@ -46,7 +50,7 @@ lastOf xs = lastFrom 0 xs
 -- what the tests of a record need of the records before it
 abbrev pub seen : Contents → Seen
 seen c = record {
-  size = digestSize (c .hash);
+  size = digestSize (c .identity .hash);
   chains = length (c .chains);
   slot = lastOf (slots (c .chains));
   measurements = length (c .measurements);
@@ -54,15 +58,20 @@ seen c = record {
   summaries = length (c .summaries);
 }
 
+-- the fields of an identity record's body
+abbrev pub identityIn : List ℕ → Identity
+identityIn body = record { exponent = getD body 0 0; hash = getD body 1 0; signature = getD body 2 0 }
+
 -- The faults of a record, in numeric order: the number of the first, 0 where there is none.
 
+abbrev pub fieldFault : Identity → ℕ
+fieldFault i =
+    pick (ltb exponentLimit (i .exponent)) wrongField
+    (pick (ltb hashLimit (i .hash)) wrongField
+    (pick (ltb signatureLimit (i .signature)) wrongField 0))
+
 unfoldable pub identityFault : List ℕ → ℕ
-identityFault body =
-    pick (eqb (length body) identityLength)
-    (pick (ltb exponentLimit (getD body 0 0)) wrongField
-    (pick (ltb hashLimit (getD body 1 0)) wrongField
-    (pick (ltb signatureLimit (getD body 2 0)) wrongField 0)))
-    wrongLength
+identityFault body = pick (eqb (length body) identityLength) (fieldFault (identityIn body)) wrongLength
 
 -- "slot or index not rising, first slot not 0"
 unfoldable pub slotWrong : ℕ → ℕ → ℕ → Bool
@@ -72,18 +81,18 @@ unfoldable pub chainFault : Seen → List ℕ → ℕ
 chainFault w body =
     pick (ltb 0 (w .measurements)) wrongKind
     (pick (leb chainsLimit (w .chains)) tooMany
-    (pick (ltb (length body) (1 + w .size + chainLeast (w .size))) wrongLength
-    (pick (ltb (1 + w .size + chainLimit) (length body)) wrongLength
+    (pick (ltb (length body) (slotLength + w .size + chainLeast (w .size))) wrongLength
+    (pick (ltb (slotLength + w .size + chainLimit) (length body)) wrongLength
     (pick (ltb slotLimit (getD body 0 0)) wrongField
     (pick (slotWrong (w .chains) (w .slot) (getD body 0 0)) wrongField
-    (pick (eqb (leAt 2 body (1 + w .size)) (length body - (1 + w .size))) 0 wrongOwnLength))))))
+    (pick (eqb (leAt 2 body (slotLength + w .size)) (length body - (slotLength + w .size))) 0 wrongOwnLength))))))
 
 unfoldable pub measurementFault : Seen → List ℕ → ℕ
 measurementFault w body =
     pick (eqb (w .chains) 0) wrongKind
     (pick (ltb 0 (w .summaries)) wrongKind
     (pick (leb measurementsLimit (w .measurements)) tooMany
-    (pick (eqb (length body) (2 + w .size))
+    (pick (eqb (length body) (labelLength + w .size))
     (pick (leb (getD body 0 0) (w .index)) wrongField
     (pick (ltb indexLimit (getD body 0 0)) wrongField
     (pick (ltb typeLimit (getD body 1 0)) wrongField 0)))
@@ -113,31 +122,32 @@ endFault w =
 -- what a good record adds to the contents
 
 abbrev pub chainIn : ℕ → List ℕ → Chain
-chainIn h body = record { slot = getD body 0 0; digest = part body 1 h; bytes = drop (1 + h) body }
+chainIn h body = record { slot = getD body 0 0; digest = part body slotLength h; bytes = drop (slotLength + h) body }
 
 abbrev pub measurementIn : List ℕ → Measurement
-measurementIn body = record { index = getD body 0 0; type = getD body 1 0; digest = drop 2 body }
+measurementIn body = record { index = getD body 0 0; type = getD body 1 0; digest = drop labelLength body }
 
 abbrev pub summaryIn : ℕ → List ℕ → Summary
 summaryIn h body = record { tcb = take h body; all = drop h body }
 
-abbrev pub identified : List ℕ → Contents
-identified body = record { exponent = getD body 0 0; hash = getD body 1 0; signature = getD body 2 0; chains = []; measurements = []; summaries = [] }
+-- contents of which only the identity was read
+abbrev pub identified : Identity → Contents
+identified i = record { identity = i; chains = []; measurements = []; summaries = [] }
 
 abbrev pub addChain : Contents → Chain → Contents
-addChain c x = record { exponent = c .exponent; hash = c .hash; signature = c .signature; chains = c .chains ++ (x ∷ []); measurements = c .measurements; summaries = c .summaries }
+addChain c x = record { identity = c .identity; chains = c .chains ++ (x ∷ []); measurements = c .measurements; summaries = c .summaries }
 
 abbrev pub addMeasurement : Contents → Measurement → Contents
-addMeasurement c m = record { exponent = c .exponent; hash = c .hash; signature = c .signature; chains = c .chains; measurements = c .measurements ++ (m ∷ []); summaries = c .summaries }
+addMeasurement c m = record { identity = c .identity; chains = c .chains; measurements = c .measurements ++ (m ∷ []); summaries = c .summaries }
 
 abbrev pub addSummary : Contents → Summary → Contents
-addSummary c s = record { exponent = c .exponent; hash = c .hash; signature = c .signature; chains = c .chains; measurements = c .measurements; summaries = c .summaries ++ (s ∷ []) }
+addSummary c s = record { identity = c .identity; chains = c .chains; measurements = c .measurements; summaries = c .summaries ++ (s ∷ []) }
 
 unfoldable pub extended : Contents → ℕ → List ℕ → Contents
 extended c kind body =
-    pick (eqb kind chainKind) (addChain c (chainIn (digestSize (c .hash)) body))
+    pick (eqb kind chainKind) (addChain c (chainIn (digestSize (c .identity .hash)) body))
     (pick (eqb kind measurementKind) (addMeasurement c (measurementIn body))
-    (addSummary c (summaryIn (digestSize (c .hash)) body)))
+    (addSummary c (summaryIn (digestSize (c .identity .hash)) body)))
 
 -- "The walk over records stops at the first fault": what is read of the records that follow those of c
 unfoldable pub readOn : Contents → Frames → Result Contents
@@ -149,7 +159,7 @@ readOn c (frame kind body rest) = unless (recordFault (seen c) kind body) (readO
 unfoldable pub readAll : Frames → Result Contents
 readAll ended = number wrongKind
 readAll broken = number brokenRecord
-readAll (frame kind body rest) = pick (eqb kind identityKind) (unless (identityFault body) (readOn (identified body) rest)) (number wrongKind)
+readAll (frame kind body rest) = pick (eqb kind identityKind) (unless (identityFault body) (readOn (identified (identityIn body)) rest)) (number wrongKind)
 
 unfoldable pub reading : List ℕ → Result Contents
 reading b =

@@ -83,12 +83,17 @@ pub fn index_byte(i: MeasurementIndex) -> u8
     i.0
 }
 
-// What is kept of an accepted image: its three numbers, how many chains and measurements it has, where the record of each
-// slot's chain has its body (0: not filled), and where the first measurement has its body.
-pub struct Index {
+// What the identity record holds: CTExponent, and the bit numbers of BaseHashAlgo and BaseAsymAlgo.
+pub struct Identity {
     pub exponent: u8,
     pub hash: u8,
     pub signature: u8,
+}
+
+// What is kept of an accepted image: its identity, how many chains and measurements it has, where the record of each
+// slot's chain has its body (0: not filled), and where the first measurement has its body.
+pub struct Index {
+    pub identity: Identity,
     pub chains: u8,
     pub measurements: u8,
     pub places: [u16; 8],

@@ -15,7 +15,7 @@ pub const SUMMARY_KIND: u8 = 4;
 
 pub const IDENTITY_LENGTH: usize = 3;
 
-pub const IDENTITY_END: usize = 7;
+pub const IDENTITY_END: usize = 1 + HEAD_LENGTH + IDENTITY_LENGTH;
 
 pub const EXPONENT_LIMIT: u8 = 31;
 
@@ -24,6 +24,8 @@ pub const HASH_LIMIT: u8 = 5;
 pub const SIGNATURE_LIMIT: u8 = 8;
 
 pub const SLOT_LIMIT: u8 = 7;
+
+pub const SLOT_LENGTH: usize = 1;
 
 pub const SLOT_COUNT: usize = 8;
 
@@ -34,6 +36,8 @@ pub const CHAIN_LEAST: usize = 5;
 pub const CHAIN_LIMIT: usize = 4096;
 
 pub const INDEX_LIMIT: u8 = 239;
+
+pub const LABEL_LENGTH: usize = 2;
 
 pub const TYPE_LIMIT: u8 = 3;
 

@@ -1,14 +1,17 @@
 // Reads a provisioning image on standard input and prints what it holds, or why the reader refuses it.
+use image::Identity;
 use image::Index;
 use image::SlotCheck;
 use image::Verdict;
+use image::limits::IMAGE_LIMIT;
+use image::limits::SLOT_LIMIT;
 use libc::STDIN_FILENO;
 use libc::STDOUT_FILENO;
 
 // One byte more than an image may have, so that too long an image is seen to be.
-const MOST: usize = 36865;
+const MOST: usize = IMAGE_LIMIT + 1;
 
-const SLOTS: u8 = 8;
+const SLOTS: u8 = SLOT_LIMIT + 1;
 
 fn print(text: &[u8]) {
     io::write_all(STDOUT_FILENO, text);
@@ -72,21 +75,21 @@ fn print_signature_name(signature: u8) {
     }
 }
 
-fn print_identity(ix: Index) {
+fn print_identity(id: Identity) {
     print(b"CTExponent ");
-    print_number(ix.exponent as u64);
+    print_number(id.exponent as u64);
     print(b"\nhash ");
-    print_hash_name(ix.hash);
+    print_hash_name(id.hash);
     print(b" (bit ");
-    print_number(ix.hash as u64);
+    print_number(id.hash as u64);
     print(b", digests of ");
-    print_number(image::digest_size(ix.hash) as u64);
+    print_number(image::digest_size(id.hash) as u64);
     print(b" bytes)\nsignature ");
-    print_signature_name(ix.signature);
+    print_signature_name(id.signature);
     print(b" (bit ");
-    print_number(ix.signature as u64);
+    print_number(id.signature as u64);
     print(b", ");
-    print_number(image::signature_size(ix.signature) as u64);
+    print_number(image::signature_size(id.signature) as u64);
     print(b" bytes)\n");
 }
 
@@ -94,7 +97,7 @@ fn print_slot(s: &[u8], ix: Index, k: u8) {
     let SlotCheck::Slot(slot) = image::slot_number(k) else {
         return;
     };
-    let length = lookup::chain_length(s, ix, slot);
+    let length = image_lookup::chain_length(s, ix, slot);
     if length == 0 {
         return;
     }
@@ -103,7 +106,7 @@ fn print_slot(s: &[u8], ix: Index, k: u8) {
     print(b": chain of ");
     print_number(length as u64);
     print(b" bytes, digest ");
-    print_digest(lookup::digest(s, ix, slot));
+    print_digest(image_lookup::digest(s, ix, slot));
 }
 
 // A measurement is its index, its type and its digest.
@@ -124,21 +127,21 @@ fn print_slots(s: &[u8], ix: Index) {
 
 fn print_measurements(s: &[u8], ix: Index) {
     for k in 0..wire::wide(ix.measurements) {
-        print_measurement(lookup::nth_measurement(s, ix, k));
+        print_measurement(image_lookup::nth_measurement(s, ix, k));
     }
 }
 
 fn print_contents(s: &[u8], ix: Index) {
-    print_identity(ix);
+    print_identity(ix.identity);
     print_slots(s, ix);
     if ix.measurements == 0 {
         return;
     }
     print_measurements(s, ix);
     print(b"summary of the TCB ");
-    print_digest(lookup::tcb_summary(s, ix));
+    print_digest(image_lookup::tcb_summary(s, ix));
     print(b"summary of all ");
-    print_digest(lookup::full_summary(s, ix));
+    print_digest(image_lookup::full_summary(s, ix));
 }
 
 fn print_image(s: &[u8]) {
@@ -149,7 +152,7 @@ fn print_image(s: &[u8]) {
     } else {
         print(b" bytes");
     }
-    let read = reader::read_image(s);
+    let read = image_reader::read_image(s);
     let verdict = read.verdict;
     let Verdict::Refused(number) = verdict else {
         print(b": accepted\n");

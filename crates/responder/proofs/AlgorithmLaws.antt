@@ -23,3 +23,7 @@ bits-are-powers k h = eqb→eq (getD bits k 0) (2 ^ k) (table.at power bits tt k
 -- a power of two is at most a greater one
 pub power-most : (n m : ℕ) → n ≤ m → 2 ^ n ≤ 2 ^ m
 power-most n m h = pow-le-pow-right (omega arith) h
+
+-- so no entry is above the last
+pub bits-few : (k : ℕ) → k ≤ 8 → getD bits k 0 ≤ 256
+bits-few k h = rw (bits-are-powers k h) (power-most k 8 h)

@@ -14,7 +14,7 @@ use Rattle.wire.proofs.Picks.{pick-case}
 use Rattle.image.specs.Limits.{slotLimit, slotCount}
 use Rattle.image.specs.Contents.{Chain, ValidChain, Each, Rises, SlotsRise, slots}
 use Rattle.image.specs.Held.{chainFor}
-use Rattle.model.specs.Digests.{joinedDigests}
+use Rattle.rules.specs.Digests.{joinedDigests}
 
 -- f of n slots from k on, one behind the other
 unfoldable pub joinedFrom : (ℕ → List ℕ) → ℕ → ℕ → List ℕ

@@ -1,4 +1,4 @@
--- MEASUREMENTS: its blocks, each of 7 + H bytes, and its parts are written one behind the other. Assumes nothing.
+-- MEASUREMENTS' blocks, each of 7 + H bytes, are written one behind the other. Assumes nothing.
 use mathlib.Core.Path.{_≡_, refl, sym, ap, _∙_}
 use mathlib.Core.List.{List, [], _∷_, _++_, map, append-assoc, append-nil}
 use mathlib.Core.Bool.{true}
@@ -6,42 +6,37 @@ use Prim.Native.Nat.{ℕ, zero, suc, _+_, _*_, _/_, _%_, _≤_, _<_}
 use native.Mathlib.Omega.{arith}
 use native.Mathlib.Nat.{zero-mul, suc-mul, mul-le-mul}
 use native.Mathlib.Numerals.{add-one}
-use lib.ListN.{length, getD, take, drop, replicate, length-append, length-drop}
+use lib.ListN.{length, getD, take, drop, length-append, length-drop}
 use lib.Seq.{take-all}
 use borrow.Author.Tests.{ltb-true}
-use Rattle.wire.specs.Bytes.{splice, part, leBytes}
+use Rattle.wire.specs.Bytes.{splice, part}
 use Rattle.wire.proofs.Laws.{splice-then}
 use Rattle.image.specs.Limits.{measurementsLimit}
 use Rattle.image.specs.Sizes.{digestSize, digestMost}
 use Rattle.image.specs.Contents.{Contents, Valid, Measurement, ValidMeasurement, Each, measurementBody}
 use Rattle.image.specs.Held.{measurementOf}
 use Rattle.image.specs.declared.MeasurementIndex.{MeasurementIndex}
-use Rattle.model.specs.Limits.{version12}
-use Rattle.model.specs.Facts.{factsOf}
-use Rattle.model.specs.Measurements.{operationFits, blockCount, blockBytes, blocksOf}
-use Rattle.model.specs.declared.Operation.{Operation}
-use Rattle.model.specs.declared.Operation.the-variants as operation
-use Rattle.model.proofs.Lengths.{block-length, present-length}
-use Rattle.responder.proofs.RunLaws.{splice-on, two-zeros}
-
--- no operation asks more blocks than there may be measurements
-pub few-blocks : (n : ℕ) (o : Operation) → n ≤ measurementsLimit → blockCount n o ≤ measurementsLimit
-few-blocks n operation.Count h = omega arith
-few-blocks n operation.All h = h
-few-blocks n (operation.One i) h = omega arith
+use Rattle.rules.specs.Facts.{factsOf}
+use Rattle.rules.specs.Measurements.{operationFits, blockCount, blockBytes, blocksOf}
+use Rattle.rules.specs.declared.Operation.{Operation}
+use Rattle.rules.specs.declared.Operation.the-variants as operation
+use Rattle.rules.proofs.AnswerLengths.{block-length, present-length}
 
 -- so many blocks have at most 32 times 71 bytes
 pub blocks-few : (n h : ℕ) → n ≤ measurementsLimit → h ≤ digestMost → n * (7 + h) ≤ 2272
 blocks-few n h p q = let e : 7 + h ≤ 71 = omega arith in mul-le-mul p e
 
--- a block in two writes
-pub block-run : (l : List ℕ) (at h : ℕ) (body : List ℕ) → length body ≡ 2 + h
-    → splice (splice l at (getD body 0 0 ∷ 1 ∷ (3 + h) % 256 ∷ (3 + h) / 256 % 256 ∷ getD body 1 0 ∷ h % 256 ∷ h / 256 % 256 ∷ [])) (at + 7) (part body 2 h)
-    ≡ splice l at (blockBytes h body)
+-- a block in two writes; its two sizes are below 256
+pub block-run : (l : List ℕ) (at h : ℕ) (body : List ℕ) → h ≤ digestMost → length body ≡ 2 + h
+    → splice (splice l at (getD body 0 0 ∷ 1 ∷ (3 + h) ∷ 0 ∷ getD body 1 0 ∷ h ∷ 0 ∷ [])) (at + 7) (part body 2 h) ≡ splice l at (blockBytes h body)
 unfolding blockBytes
-block-run l at h body e =
-    rw (take-all h (drop 2 body) (simp length-drop (omega arith)))
-    (splice-then l at (getD body 0 0 ∷ 1 ∷ (3 + h) % 256 ∷ (3 + h) / 256 % 256 ∷ getD body 1 0 ∷ h % 256 ∷ h / 256 % 256 ∷ []) (drop 2 body) 7 refl)
+block-run l at h body few e =
+    let a : (3 + h) % 256 ≡ 3 + h = omega arith in
+    let b : (3 + h) / 256 % 256 ≡ 0 = omega arith in
+    let c : h % 256 ≡ h = omega arith in
+    let d : h / 256 % 256 ≡ 0 = omega arith in
+    rw (a, b, c, d, take-all h (drop 2 body) (simp length-drop (omega arith)))
+    (splice-then l at (getD body 0 0 ∷ 1 ∷ (3 + h) ∷ 0 ∷ getD body 1 0 ∷ h ∷ 0 ∷ []) (drop 2 body) 7 refl)
 
 -- one block more
 next : (h : ℕ) (ms : List Measurement) (k : ℕ) → k < length ms → blocksOf h (take (suc k) ms) ≡ blocksOf h (take k ms) ++ blockBytes h (getD (map measurementBody ms) k [])
@@ -74,26 +69,6 @@ block-after l at h ms k e p =
     ∙ rw (add-one, next h ms k p)
 
 -- a measurement that was asked for and is there is index, type and a digest of H bytes
-pub asked-length : (c : Contents) → Valid c → (i : MeasurementIndex) → operationFits (factsOf c) (operation.One i) ≡ true → length (measurementOf c (i .0)) ≡ 2 + digestSize (c .hash)
+pub asked-length : (c : Contents) → Valid c → (i : MeasurementIndex) → operationFits (factsOf c) (operation.One i) ≡ true → length (measurementOf c (i .0)) ≡ 2 + digestSize (c .identity .hash)
 unfolding operationFits
 asked-length c v i p = present-length c v (i .0) (ltb-true _ _ p)
-
--- MEASUREMENTS' parts, one behind the other
-parts-run : (l h rec n : List ℕ) (s : ℕ) → length h ≡ 8 → length n ≡ 32
-    → splice (splice (splice (splice l 0 h) 8 rec) (8 + length rec) n) (8 + length rec + 32) (replicate (2 + s) 0) ≡ splice l 0 ((h ++ (rec ++ (n ++ (0 ∷ 0 ∷ [])))) ++ replicate s 0)
-parts-run l h rec n s p q =
-    rw (
-      splice-on l h rec 8 p,
-      splice-on l (h ++ rec) n (8 + length rec) (simp (length-append, p)),
-      splice-on l ((h ++ rec) ++ n) (replicate (2 + s) 0) (8 + length rec + 32) (simp (length-append, p, q)),
-      two-zeros s,
-    )
-    (simp append-assoc)
-
--- a record's length below 65,536 has a third byte of 0
-pub measurements-run : (l rec n : List ℕ) (x y z s : ℕ) → length rec ≤ 2272 → length n ≡ 32
-    → splice (splice (splice (splice l 0 (version12 ∷ 0x60 ∷ x ∷ y ∷ z ∷ length rec % 256 ∷ length rec / 256 % 256 ∷ 0 ∷ [])) 8 rec) (8 + length rec) n) (8 + length rec + 32) (replicate (2 + s) 0)
-    ≡ splice l 0 (((version12 ∷ 0x60 ∷ x ∷ y ∷ z ∷ []) ++ (leBytes 3 (length rec) ++ (rec ++ (n ++ (0 ∷ 0 ∷ []))))) ++ replicate s 0)
-measurements-run l rec n x y z s few q =
-    let third : length rec / 256 / 256 % 256 ≡ 0 = omega arith in
-    rw third (parts-run l (version12 ∷ 0x60 ∷ x ∷ y ∷ z ∷ length rec % 256 ∷ length rec / 256 % 256 ∷ 0 ∷ []) rec n s refl q)

@@ -1,46 +1,46 @@
 // CAPABILITIES.
 use image::Index;
-use model::limits::VERSION_12;
+use rules::Negotiated;
+use rules::limits::CAPABILITIES_CODE;
+use rules::limits::MEASURING_FLAGS;
+use rules::limits::MESSAGE_LIMIT;
+use rules::limits::PLAIN_FLAGS;
 ghost use mathlib.Core.Path.{_≡_};
-ghost use lib.Dec.{eqb};
 ghost use Rattle.wire.specs.Bytes.{splice};
-ghost use Rattle.wire.specs.Pick.{pick};
 ghost use Rattle.image.specs.Contents.{Contents};
 ghost use Rattle.image.specs.Index.{indexOf};
-ghost use Rattle.model.specs.Capabilities.{capabilitiesBytes};
+ghost use Rattle.rules.specs.Capabilities.{flagsOf, capabilitiesBytes};
 
 fn flags(ix: Index) -> u8
-    ensures { λ r. ⌜ r ≡ pick (eqb (ix .measurements) 0) 0x06 0x16 ⌝ }
+    ensures { λ r. ⌜ r ≡ flagsOf (ix .measurements) ⌝ }
 {
-    if ix.measurements == 0 { 0x06 } else { 0x16 }
+    if ix.measurements == 0 {
+        return PLAIN_FLAGS;
+    }
+    MEASURING_FLAGS
 }
 
-pub(crate) fn write_capabilities(answer: &mut [u8], ix: Index)
-    ensures { λ _. ⌜ ((c : Contents) → ix ≡ indexOf c → now (answer .exit) ≡ splice (now (answer .entry)) 0 (capabilitiesBytes c)) ⌝ }
+pub(crate) fn write_capabilities(answer: &mut [u8], ix: Index, n: Negotiated)
+    ensures { λ _. ⌜ ((c : Contents) → ix ≡ indexOf c →
+        now (answer .exit) ≡ splice (now (answer .entry)) 0 (capabilitiesBytes c n)) ⌝ }
 {
-    let exponent = ix.exponent;
+    let id = ix.identity;
     let bits = flags(ix);
-    let m = [
-        VERSION_12,
-        0x61,
+    let head = [
+        state::version_of(n),
+        CAPABILITIES_CODE,
         0,
         0,
         0,
-        exponent,
+        id.exponent,
         0,
         0,
         bits,
         0,
         0,
         0,
-        0x00,
-        0x12,
-        0,
-        0,
-        0x00,
-        0x12,
-        0,
-        0,
     ];
-    wire::copy_into(answer, 0, &m);
+    wire::copy_into(answer, 0, &head);
+    wire::put_le(answer, 12, 4, MESSAGE_LIMIT);
+    wire::put_le(answer, 16, 4, MESSAGE_LIMIT);
 }

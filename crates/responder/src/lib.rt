@@ -1,28 +1,30 @@
 // The responder: one request in, one answer out. It tests everything itself.
+mod accept;
 mod algorithms;
-mod answer;
 mod capabilities;
 mod certificate;
 mod challenge;
 mod digests;
 mod measurements;
-mod transcript;
+mod messages;
+mod refuse;
 mod version;
 mod zeros;
 
 use image::Index;
 use image::Verdict;
-use model::Decision;
-use model::Outcome;
-use model::Reply;
-use model::State;
+use rules::Decision;
+use rules::Lengths;
+use rules::Outcome;
+use rules::Reply;
+use rules::State;
 ghost use lib.ListN.{length};
 ghost use Rattle.image.specs.Contents.{Contents};
 ghost use Rattle.image.specs.Reading.{reading};
-ghost use Rattle.model.specs.Facts.{factsOf};
-ghost use Rattle.model.specs.Decisions.{decisionOf};
-ghost use Rattle.model.specs.Effects.{effectOf, effectBy};
-ghost use Rattle.model.specs.Box.{Responded};
+ghost use Rattle.rules.specs.Facts.{factsOf};
+ghost use Rattle.rules.specs.Decisions.{decisionOf};
+ghost use Rattle.rules.specs.Effects.{Effect, effectOf, effectBy};
+ghost use Rattle.rules.specs.Box.{Lent, lengthsOf, Responded};
 ghost use Rattle.image.specs.Read.{ReadAs, Known};
 
 // A request on an image that was accepted: decided first, then carried out.
@@ -36,89 +38,44 @@ fn answer_request(
     nonce: &[u8],
 ) -> Outcome
     requires { ⌜ Known (now image) ix ⌝ }
-    ensures { λ o. ⌜ ((c : Contents) → ReadAs (now (image .entry)) ix c → Responded (effectOf (decisionOf (factsOf c) s (length (now (answer .entry))) (length (now (transcript .entry))) (length (now (nonce .entry))) (now (request .entry))) c s (now (nonce .entry)) (now (request .entry))) s (now (transcript .entry)) (now (transcript .exit)) (now (answer .entry)) (now (answer .exit)) o) ⌝ }
+    ensures { λ o. ⌜ ((c : Contents) → ReadAs (now (image .entry)) ix c →
+        let before : Lent = record { transcript = now (transcript .entry); answer = now (answer .entry) } in
+        let after : Lent = record { transcript = now (transcript .exit); answer = now (answer .exit) } in
+        let d : Decision = decisionOf (factsOf c) s (lengthsOf before) (length (now (nonce .entry))) (now (request .entry)) in
+        Responded (effectOf d c s (now (nonce .entry)) (now (request .entry))) s before after o) ⌝ }
 {
-    let d = decision::decide(
-        image,
-        ix,
-        s,
-        answer.len(),
-        transcript.len(),
-        nonce.len(),
-        request,
-    );
+    let lent = Lengths {
+        transcript: transcript.len(),
+        answer: answer.len(),
+    };
+    let d = decision::decide(image, ix, s, lent, nonce.len(), request);
     match d {
         Decision::Number(number) => Outcome {
             reply: Reply::Number(number),
             state: s,
         },
-        Decision::Error { step, code, extra } => answer::refuse(
-            s,
-            answer,
-            request,
+        Decision::Refused {
             step,
             code,
             extra,
-        ),
-        Decision::TooLarge { size } => answer::refuse_large(s, answer, request, size),
-        Decision::Version => answer::accept_version(transcript, answer, request),
-        Decision::Capabilities { peer } => answer::accept_capabilities(
-            ix,
-            s,
-            transcript,
-            answer,
-            request,
-            peer,
-        ),
-        Decision::Algorithms { length, selection } => answer::accept_algorithms(
-            ix,
-            s,
-            transcript,
-            answer,
-            request,
-            length,
-            selection,
-        ),
-        Decision::Digests => answer::accept_digests(image, ix, s, transcript, answer, request),
-        Decision::Certificate {
-            slot,
-            offset,
-            portion,
-            remainder,
-        } => answer::accept_certificate(
-            image,
-            ix,
-            s,
-            transcript,
-            answer,
-            request,
-            slot,
-            offset,
-            portion,
-            remainder,
-        ),
-        Decision::Challenge { slot, summary } => answer::accept_challenge(
-            image,
-            ix,
-            s,
-            transcript,
-            answer,
-            request,
-            nonce,
-            slot,
-            summary,
-        ),
-        Decision::Measurements { operation, signer } => answer::accept_measurements(
-            image,
-            ix,
-            s,
-            transcript,
-            answer,
-            request,
-            nonce,
-            operation,
-            signer,
-        ),
+            size,
+        } => refuse::refuse(s, answer, request, step, code, extra, size),
+        Decision::Accepted {
+            message,
+            negotiated,
+            exchange,
+        } => {
+            messages::write_message(answer, image, ix, nonce, negotiated, message);
+            accept::accept(
+                s,
+                message,
+                negotiated,
+                exchange,
+                transcript,
+                answer,
+                request,
+            )
+        }
     }
 }
 
@@ -131,9 +88,13 @@ pub fn respond(
     request: &[u8],
     nonce: &[u8],
 ) -> Outcome
-    ensures { λ o. ⌜ Responded (effectBy (reading (now (image .entry))) s (length (now (answer .entry))) (length (now (transcript .entry))) (now (request .entry)) (now (nonce .entry))) s (now (transcript .entry)) (now (transcript .exit)) (now (answer .entry)) (now (answer .exit)) o ⌝ }
+    ensures { λ o. ⌜ (
+        let before : Lent = record { transcript = now (transcript .entry); answer = now (answer .entry) } in
+        let after : Lent = record { transcript = now (transcript .exit); answer = now (answer .exit) } in
+        let e : Effect = effectBy (reading (now (image .entry))) s (lengthsOf before) (now (request .entry)) (now (nonce .entry)) in
+        Responded e s before after o) ⌝ }
 {
-    let read = reader::read_image(image);
+    let read = image_reader::read_image(image);
     let verdict = read.verdict;
     let ix = read.index;
     match verdict {

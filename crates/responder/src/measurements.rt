@@ -1,19 +1,19 @@
 // MEASUREMENTS.
 use image::Index;
-use model::Operation;
-use model::Signer;
-use model::limits::NONCE_LENGTH;
-use model::limits::VERSION_12;
+use rules::Negotiated;
+use rules::Operation;
+use rules::Signer;
+use rules::limits::MEASUREMENTS_CODE;
+use rules::limits::NONCE_LENGTH;
 ghost use mathlib.Core.Path.{_≡_};
-ghost use mathlib.Core.List.{_++_};
 ghost use Prim.Native.Nat.{_+_, _≤_};
-ghost use lib.ListN.{length, replicate};
+ghost use lib.ListN.{length};
 ghost use Rattle.wire.specs.Bytes.{splice};
 ghost use Rattle.image.specs.Contents.{Contents};
 ghost use mathlib.Core.Bool.{true};
-ghost use Rattle.model.specs.Facts.{factsAt, factsOf};
-ghost use Rattle.model.specs.Limits.{messageLimit, nonceLength};
-ghost use Rattle.model.specs.Measurements.{signatureOf, operationFits, blockBytes, blocksOf, recordOf, countShown, slotShown, measurementsBytes};
+ghost use Rattle.rules.specs.Facts.{factsAt};
+ghost use Rattle.rules.specs.Limits.{messageLimit, nonceLength};
+ghost use Rattle.rules.specs.Measurements.{operationFits, blockBytes, blocksOf, recordOf, countShown, slotShown, measurementsBytes};
 ghost use Rattle.image.specs.Sizes.{digestSize, digestMost};
 ghost use Rattle.image.specs.Index.{indexOf};
 ghost use Rattle.image.specs.Read.{ReadAs, Known};
@@ -23,15 +23,15 @@ fn write_block(answer: &mut [u8], at: usize, h: usize, body: &[u8])
     requires { ⌜ (at ≤ messageLimit) × ((h ≤ digestMost) × (length (now body) ≡ 2 + h)) ⌝ }
     ensures { λ _. ⌜ now (answer .exit) ≡ splice (now (answer .entry)) at (blockBytes h (now (body .entry))) ⌝ }
 {
-    let size = 3 + h;
+    // H is at most 64: one byte of each size says it
     let head = [
         wire::byte_at(body, 0),
         1,
-        (size % 256) as u8,
-        (size / 256 % 256) as u8,
+        (3 + h) as u8,
+        0,
         wire::byte_at(body, 1),
-        (h % 256) as u8,
-        (h / 256 % 256) as u8,
+        h as u8,
+        0,
     ];
     wire::copy_into(answer, at, &head);
     wire::copy_into(answer, at + 7, wire::part_of(body, 2, h));
@@ -39,9 +39,11 @@ fn write_block(answer: &mut [u8], at: usize, h: usize, body: &[u8])
 
 fn write_all_blocks(answer: &mut [u8], at: usize, image: &[u8], ix: Index)
     requires { ⌜ (at ≤ 8) × (Known (now image) ix) ⌝ }
-    ensures { λ _. ⌜ ((c : Contents) → ReadAs (now (image .entry)) ix c → now (answer .exit) ≡ splice (now (answer .entry)) at (blocksOf (digestSize (c .hash)) (c .measurements))) ⌝ }
+    ensures { λ _. ⌜ ((c : Contents) → ReadAs (now (image .entry)) ix c →
+        now (answer .exit) ≡ splice (now (answer .entry)) at (blocksOf (digestSize (c .identity .hash)) (c .measurements))) ⌝ }
 {
-    let h = image::digest_size(ix.hash);
+    let id = ix.identity;
+    let h = image::digest_size(id.hash);
     let count = wire::wide(ix.measurements);
     let mut k: usize = 0;
     while k < count {
@@ -49,7 +51,7 @@ fn write_all_blocks(answer: &mut [u8], at: usize, image: &[u8], ix: Index)
             answer,
             at + k * (7 + h),
             h,
-            lookup::nth_measurement(image, ix, k),
+            image_lookup::nth_measurement(image, ix, k),
         );
         k = k + 1;
     }
@@ -57,16 +59,18 @@ fn write_all_blocks(answer: &mut [u8], at: usize, image: &[u8], ix: Index)
 
 fn write_record(answer: &mut [u8], at: usize, image: &[u8], ix: Index, o: Operation)
     requires { ⌜ (at ≤ 8) × ((Known (now image) ix) × (operationFits (factsAt (now image) ix) o ≡ true)) ⌝ }
-    ensures { λ _. ⌜ ((c : Contents) → ReadAs (now (image .entry)) ix c → now (answer .exit) ≡ splice (now (answer .entry)) at (recordOf c o)) ⌝ }
+    ensures { λ _. ⌜ ((c : Contents) → ReadAs (now (image .entry)) ix c →
+        now (answer .exit) ≡ splice (now (answer .entry)) at (recordOf c o)) ⌝ }
 {
+    let id = ix.identity;
     match o {
         Operation::Count => {}
         Operation::All => write_all_blocks(answer, at, image, ix),
         Operation::One(i) => write_block(
             answer,
             at,
-            image::digest_size(ix.hash),
-            lookup::measurement(image, ix, i),
+            image::digest_size(id.hash),
+            image_lookup::measurement(image, ix, i),
         ),
     }
 }
@@ -90,36 +94,33 @@ fn slot_shown(g: Signer) -> u8
     }
 }
 
-// MEASUREMENTS, with zeros for its signature.
 pub(crate) fn write_measurements(
     answer: &mut [u8],
     image: &[u8],
     ix: Index,
     nonce: &[u8],
+    n: Negotiated,
     o: Operation,
     g: Signer,
 )
-    requires { ⌜ (Known (now image) ix) × ((length (now nonce) ≡ nonceLength) × (operationFits (factsAt (now image) ix) o ≡ true)) ⌝ }
-    ensures { λ _. ⌜ ((c : Contents) → ReadAs (now (image .entry)) ix c → now (answer .exit) ≡ splice (now (answer .entry)) 0 (measurementsBytes c (now (nonce .entry)) o g ++ replicate (signatureOf (factsOf c) g) 0)) ⌝ }
+    requires { ⌜ (Known (now image) ix)
+        × ((length (now nonce) ≡ nonceLength) × (operationFits (factsAt (now image) ix) o ≡ true)) ⌝ }
+    ensures { λ _. ⌜ ((c : Contents) → ReadAs (now (image .entry)) ix c →
+        now (answer .exit) ≡ splice (now (answer .entry)) 0 (measurementsBytes c (now (nonce .entry)) n o g)) ⌝ }
 {
-    let blocks = sizes::block_count(ix, o);
-    let long = wire::wide(blocks) * (7 + image::digest_size(ix.hash));
+    let id = ix.identity;
+    let blocks = decision::sizes::block_count(ix, o);
+    let long = wire::wide(blocks) * (7 + image::digest_size(id.hash));
     let head = [
-        VERSION_12,
-        0x60,
+        state::version_of(n),
+        MEASUREMENTS_CODE,
         count_shown(ix, o),
         slot_shown(g),
         blocks,
-        (long % 256) as u8,
-        (long / 256 % 256) as u8,
-        0,
     ];
     wire::copy_into(answer, 0, &head);
+    wire::put_le(answer, 5, 3, long);
     write_record(answer, 8, image, ix, o);
     wire::copy_into(answer, 8 + long, nonce);
-    super::zeros::write_zeros(
-        answer,
-        8 + long + NONCE_LENGTH,
-        2 + sizes::signature_of(ix, g),
-    );
+    wire::put_le(answer, 8 + long + NONCE_LENGTH, 2, 0);
 }

@@ -1,10 +1,15 @@
 // VERSION.
+use rules::Negotiated;
+use rules::limits::VERSION_CODE;
+use rules::limits::VERSION_ENTRY;
 ghost use mathlib.Core.Path.{_≡_};
 ghost use Rattle.wire.specs.Bytes.{splice};
-ghost use Rattle.model.specs.Version.{versionBytes};
+ghost use Rattle.rules.specs.Version.{versionBytes};
 
-pub(crate) fn write_version(answer: &mut [u8])
-    ensures { λ _. ⌜ now (answer .exit) ≡ splice (now (answer .entry)) 0 versionBytes ⌝ }
+pub(crate) fn write_version(answer: &mut [u8], n: Negotiated)
+    ensures { λ _. ⌜ now (answer .exit) ≡ splice (now (answer .entry)) 0 (versionBytes n) ⌝ }
 {
-    wire::copy_into(answer, 0, b"\x10\x04\x00\x00\x00\x01\x00\x12");
+    let head = [state::version_of(n), VERSION_CODE, 0, 0, 0, 1];
+    wire::copy_into(answer, 0, &head);
+    wire::put_le(answer, 6, 2, VERSION_ENTRY);
 }

@@ -1,41 +1,49 @@
 // What gets signed, and finishing.
 use image::Index;
 use image::Verdict;
-use model::Finish;
-use model::Outcome;
-use model::Reply;
-use model::State;
-use model::limits::AWAITS_CHALLENGE;
-use model::limits::AWAITS_MEASUREMENTS;
-use model::limits::B_START;
-use model::limits::M_START;
-use model::limits::MESSAGE_LIMIT;
-use model::limits::NOTHING_AWAITED;
-use model::limits::SHORT_ANSWER;
-use model::limits::SHORT_TRANSCRIPT;
-use model::limits::TRANSCRIPT_LENGTH;
-use model::limits::WRONG_SIGNATURE;
-use model::limits::WRONG_STATE;
+use rules::Finish;
+use rules::Lengths;
+use rules::Outcome;
+use rules::Reply;
+use rules::State;
+use rules::Used;
+use rules::limits::A_START;
+use rules::limits::AWAITS_CHALLENGE;
+use rules::limits::AWAITS_MEASUREMENTS;
+use rules::limits::AWAITS_NOTHING;
+use rules::limits::B_START;
+use rules::limits::ERROR_CODE;
+use rules::limits::HEADER_LENGTH;
+use rules::limits::M_START;
+use rules::limits::MESSAGE_LIMIT;
+use rules::limits::NOTHING_AWAITED;
+use rules::limits::SHORT_ANSWER;
+use rules::limits::SHORT_TRANSCRIPT;
+use rules::limits::TRANSCRIPT_LENGTH;
+use rules::limits::UNSPECIFIED;
+use rules::limits::WRONG_SIGNATURE;
+use rules::limits::WRONG_STATE;
 ghost use mathlib.Core.Path.{_≡_};
 ghost use mathlib.Core.List.{List, _++_};
 ghost use Prim.Native.Nat.{ℕ};
 ghost use lib.ListN.{length};
 ghost use Rattle.wire.specs.Bytes.{splice};
 ghost use Rattle.image.specs.Reading.{reading};
-ghost use Rattle.model.specs.Facts.{factsAt};
-ghost use Rattle.model.specs.Signing.{spdmText, prefixOf, finishOf, finishBy};
-ghost use Rattle.model.specs.Box.{signedFirst, signedSecond, emptiedState, Finished};
+ghost use Rattle.rules.specs.Facts.{factsAt};
+ghost use Rattle.rules.specs.Signing.{spdmText, prefixOf, finishOf, finishBy};
+ghost use Rattle.rules.specs.Parts.{keptByFinishing, keptUsed};
+ghost use Rattle.rules.specs.Box.{Lent, lengthsOf, signedFirst, signedSecond, emptiedState, Finished};
 
 // The prefix that is signed before the hash, for the awaited signature; nothing where none is awaited.
-pub fn write_prefix(awaited: u32, out: &mut [u8])
-    ensures { λ _. ⌜ now (out .exit) ≡ splice (now (out .entry)) 0 (prefixOf awaited) ⌝ }
+pub fn write_prefix(whose: u32, out: &mut [u8])
+    ensures { λ _. ⌜ now (out .exit) ≡ splice (now (out .entry)) 0 (prefixOf whose) ⌝ }
 {
-    if awaited == AWAITS_CHALLENGE {
+    if whose == AWAITS_CHALLENGE {
         write_texts(out);
         wire::copy_into(out, 64, b"\x00\x00\x00\x00responder-challenge_auth signing");
         return;
     }
-    if awaited == AWAITS_MEASUREMENTS {
+    if whose == AWAITS_MEASUREMENTS {
         write_texts(out);
         wire::copy_into(
             out,
@@ -60,11 +68,13 @@ fn write_texts(out: &mut [u8])
 pub fn first_part(s: State, transcript: &[u8]) -> &[u8]
     ensures { λ r. ⌜ now r ≡ signedFirst s (now (transcript .entry)) ⌝ }
 {
-    let part = wire::part_of(transcript, 0, s.a as usize);
-    if s.awaited == AWAITS_CHALLENGE {
+    let u = s.used;
+    let w = s.awaited;
+    let part = wire::part_of(transcript, A_START, u.a as usize);
+    if w.whose == AWAITS_CHALLENGE {
         return part;
     }
-    if s.awaited == AWAITS_MEASUREMENTS {
+    if w.whose == AWAITS_MEASUREMENTS {
         return part;
     }
     wire::part_of(part, 0, 0)
@@ -74,82 +84,98 @@ pub fn first_part(s: State, transcript: &[u8]) -> &[u8]
 pub fn second_part(s: State, transcript: &[u8]) -> &[u8]
     ensures { λ r. ⌜ now r ≡ signedSecond s (now (transcript .entry)) ⌝ }
 {
-    if s.awaited == AWAITS_CHALLENGE {
-        return wire::part_of(transcript, B_START, s.b as usize);
+    let u = s.used;
+    let w = s.awaited;
+    if w.whose == AWAITS_CHALLENGE {
+        return wire::part_of(transcript, B_START, u.b as usize);
     }
-    if s.awaited == AWAITS_MEASUREMENTS {
-        return wire::part_of(transcript, M_START, s.m as usize);
+    if w.whose == AWAITS_MEASUREMENTS {
+        return wire::part_of(transcript, M_START, u.m as usize);
     }
     wire::part_of(transcript, 0, 0)
 }
 
-fn decide_finish(ix: Index, s: State, answer: usize, lent: usize, ok: bool, size: usize) -> Finish
-    ensures { λ d. ⌜ ((b : List ℕ) → d ≡ finishOf (factsAt b ix) s answer lent ok size) ⌝ }
+fn decide_finish(ix: Index, s: State, lent: Lengths, ok: bool, size: usize) -> Finish
+    ensures { λ d. ⌜ ((b : List ℕ) → d ≡ finishOf (factsAt b ix) s lent ok size) ⌝ }
 {
-    if answer < MESSAGE_LIMIT {
+    let w = s.awaited;
+    let id = ix.identity;
+    if lent.answer < MESSAGE_LIMIT {
         return Finish::Number(SHORT_ANSWER);
     }
-    if lent < TRANSCRIPT_LENGTH {
+    if lent.transcript < TRANSCRIPT_LENGTH {
         return Finish::Number(SHORT_TRANSCRIPT);
     }
-    if !state::in_bounds(ix, s) {
+    if !state::in_bounds(ix.measurements, id.signature, s) {
         return Finish::Number(WRONG_STATE);
     }
-    if s.awaited == 0 {
+    if w.whose == AWAITS_NOTHING {
         return Finish::Number(NOTHING_AWAITED);
     }
     if !ok {
         return Finish::Failed;
     }
-    if size != image::signature_size(ix.signature) {
+    if size != image::signature_size(id.signature) {
         return Finish::Number(WRONG_SIGNATURE);
     }
     Finish::Signed
+}
+
+// What a finishing keeps of the parts, by whose signature it was.
+fn kept(whose: u32, u: Used) -> Used
+    ensures { λ r. ⌜ r ≡ keptUsed (keptByFinishing whose) u ⌝ }
+{
+    if whose == AWAITS_CHALLENGE {
+        return Used { b: 0, ..u };
+    }
+    Used { m: 0, ..u }
 }
 
 // B (or M) is emptied, and nothing is awaited.
 fn emptied(s: State) -> State
     ensures { λ r. ⌜ r ≡ emptiedState s ⌝ }
 {
-    let mut next = s;
-    next.awaited = 0;
-    next.answer = 0;
-    if s.awaited == AWAITS_CHALLENGE {
-        next.b = 0;
-        return next;
-    }
-    next.m = 0;
-    next
+    let u = s.used;
+    let w = s.awaited;
+    let used = kept(w.whose, u);
+    let fresh = state::fresh();
+    let awaited = fresh.awaited;
+    State { used, awaited, ..s }
 }
 
 fn finish_answer(
     ix: Index,
     s: State,
-    lent: usize,
+    lent: Lengths,
     answer: &mut [u8],
     ok: bool,
     signature: &[u8],
 ) -> Outcome
-    ensures { λ o. ⌜ ((b : List ℕ) → Finished (finishOf (factsAt b ix) s (length (now (answer .entry))) lent ok (length (now (signature .entry)))) s (now (answer .entry)) (now (answer .exit)) (now (signature .entry)) o) ⌝ }
+    ensures { λ o. ⌜ ((b : List ℕ) →
+        let d : Finish = finishOf (factsAt b ix) s lent ok (length (now (signature .entry))) in
+        Finished d s (now (answer .entry)) (now (answer .exit)) (now (signature .entry)) o) ⌝ }
 {
-    let d = decide_finish(ix, s, answer.len(), lent, ok, signature.len());
+    let d = decide_finish(ix, s, lent, ok, signature.len());
+    let n = s.negotiated;
+    let w = s.awaited;
     match d {
         Finish::Number(number) => Outcome {
             reply: Reply::Number(number),
             state: s,
         },
         Finish::Signed => {
-            let n = s.answer as usize;
-            wire::copy_into(answer, n - signature.len(), signature);
+            let length = w.length as usize;
+            wire::copy_into(answer, length - signature.len(), signature);
             Outcome {
-                reply: Reply::Answer(n),
+                reply: Reply::Answer(length),
                 state: emptied(s),
             }
         }
         Finish::Failed => {
-            wire::copy_into(answer, 0, b"\x12\x7F\x05\x00");
+            let m = [state::version_of(n), ERROR_CODE, UNSPECIFIED, 0];
+            wire::copy_into(answer, 0, &m);
             Outcome {
-                reply: Reply::Answer(4),
+                reply: Reply::Answer(HEADER_LENGTH),
                 state: emptied(s),
             }
         }
@@ -165,16 +191,23 @@ pub fn finish(
     ok: bool,
     signature: &[u8],
 ) -> Outcome
-    ensures { λ o. ⌜ Finished (finishBy (reading (now (image .entry))) s (length (now (answer .entry))) (length (now (transcript .entry))) ok (length (now (signature .entry)))) s (now (answer .entry)) (now (answer .exit)) (now (signature .entry)) o ⌝ }
+    ensures { λ o. ⌜ (
+        let before : Lent = record { transcript = now (transcript .entry); answer = now (answer .entry) } in
+        let d : Finish = finishBy (reading (now (image .entry))) s (lengthsOf before) ok (length (now (signature .entry))) in
+        Finished d s (now (answer .entry)) (now (answer .exit)) (now (signature .entry)) o) ⌝ }
 {
-    let read = reader::read_image(image);
+    let read = image_reader::read_image(image);
     let verdict = read.verdict;
     let ix = read.index;
+    let lent = Lengths {
+        transcript: transcript.len(),
+        answer: answer.len(),
+    };
     match verdict {
         Verdict::Refused(number) => Outcome {
             reply: Reply::Number(number as u32),
             state: s,
         },
-        Verdict::Accepted => finish_answer(ix, s, transcript.len(), answer, ok, signature),
+        Verdict::Accepted => finish_answer(ix, s, lent, answer, ok, signature),
     }
 }

@@ -11,45 +11,41 @@ use Rattle.wire.proofs.Picks.{pick-case}
 use Rattle.image.specs.Limits.{wrongOwnLength}
 use Rattle.image.specs.Contents.{Contents}
 use Rattle.image.specs.Reading.{Result, number, found, unless, Frames, ended, broken, frame, identityFault, chainFault, measurementFault, summaryFault, recordFault, endFault, seen, extended, readOn, readAll, reading}
-use Rattle.model.specs.Limits.{wrongSignature}
-use Rattle.model.specs.Facts.{Facts}
-use Rattle.model.specs.Steps.{kindSteps, firstSteps, sizeSteps}
-use Rattle.model.specs.Capabilities.{capabilitiesDecision}
-use Rattle.model.specs.Algorithms.{algorithmsDecision}
-use Rattle.model.specs.Digests.{digestsDecision}
-use Rattle.model.specs.Certificate.{portionDecision, certificateDecision}
-use Rattle.model.specs.Challenge.{challengeDecision}
-use Rattle.model.specs.Measurements.{measurementsSized, operationStep, measurementsBy, measurementsDecision}
-use Rattle.model.specs.Decisions.{lastSteps, requestDecision, decisionOf}
-use Rattle.model.specs.declared.State.{State}
-use Rattle.model.specs.declared.Kind.{Kind}
-use Rattle.model.specs.declared.Kind.the-variants as kind
-use Rattle.model.specs.declared.Operation.{Operation}
-use Rattle.model.specs.declared.Signer.{Signer}
-use Rattle.model.specs.declared.Decision.{Decision}
-use Rattle.model.specs.declared.Decision.the-variants as decision
-use Rattle.image.specs.declared.SlotNumber.{SlotNumber}
+use Rattle.rules.specs.Limits.{wrongSignature}
+use Rattle.rules.specs.Facts.{Facts}
+use Rattle.rules.specs.Steps.{kindSteps, askedSteps, firstSteps, sizeSteps}
+use Rattle.rules.specs.Capabilities.{capabilitiesDecision}
+use Rattle.rules.specs.Algorithms.{algorithmsDecision}
+use Rattle.rules.specs.Digests.{digestsDecision}
+use Rattle.rules.specs.Certificate.{portionDecision, certificateDecision}
+use Rattle.rules.specs.Challenge.{challengeDecision}
+use Rattle.rules.specs.Measurements.{operationStep, measurementsBy, measurementsDecision}
+use Rattle.rules.specs.Decisions.{lastSteps, requestDecision, decisionOf}
+use Rattle.rules.specs.declared.State.{State}
+use Rattle.rules.specs.declared.Kind.{Kind}
+use Rattle.rules.specs.declared.Kind.the-variants as kind
+use Rattle.rules.specs.declared.Lengths.{Lengths}
+use Rattle.rules.specs.declared.Asked.{Asked}
+use Rattle.rules.specs.declared.Asked.the-variants.{Served, Unserved}
+use Rattle.rules.specs.declared.Negotiated.{Negotiated}
+use Rattle.rules.specs.declared.Message.{Message}
+use Rattle.rules.specs.declared.Exchange.{Exchange}
+use Rattle.rules.specs.declared.Decision.{Decision}
+use Rattle.rules.specs.declared.Decision.the-variants as decision
 
 -- a number of the table, or no number
 pub data Few : Decision → Type 0 where
   few-number : (k : ℕ) → k ≤ wrongSignature → Few (decision.Number k)
-  few-error : (step code extra : ℕ) → Few (decision.Error step code extra)
-  few-large : (size : ℕ) → Few (decision.TooLarge size)
-  few-version : Few decision.Version
-  few-capabilities : (peer : ℕ) → Few (decision.Capabilities peer)
-  few-algorithms : (layout selection : ℕ) → Few (decision.Algorithms layout selection)
-  few-digests : Few decision.Digests
-  few-certificate : (slot : SlotNumber) (offset portion remainder : ℕ) → Few (decision.Certificate slot offset portion remainder)
-  few-challenge : (slot : SlotNumber) (summary : ℕ) → Few (decision.Challenge slot summary)
-  few-measurements : (o : Operation) (g : Signer) → Few (decision.Measurements o g)
+  few-refused : (step code extra size : ℕ) → Few (decision.Refused step code extra size)
+  few-accepted : (m : Message) (n : Negotiated) (x : Exchange) → Few (decision.Accepted m n x)
 
 few-pick : (b : Bool) (x y : Decision) → Few x → Few y → Few (pick b x y)
 few-pick b x y p q = pick-case Few b x y (λ _. p) (λ _. q)
 
-ruleset fews = (few-pick, few-error, few-large, few-version, few-capabilities, few-algorithms, few-digests, few-certificate, few-challenge, few-measurements)
+ruleset fews = (few-pick, few-refused, few-accepted)
 
 few-last : (f : Facts) (s : State) (r : List ℕ) (k : Kind) → Few (lastSteps f s r k)
-unfolding lastSteps capabilitiesDecision algorithmsDecision digestsDecision certificateDecision portionDecision challengeDecision measurementsDecision measurementsBy operationStep measurementsSized sizeSteps
+unfolding lastSteps capabilitiesDecision algorithmsDecision digestsDecision certificateDecision portionDecision challengeDecision measurementsDecision measurementsBy operationStep sizeSteps
 few-last f s r kind.Version = search fews depth 16
 few-last f s r kind.Capabilities = search fews depth 16
 few-last f s r kind.Algorithms = search fews depth 16
@@ -57,15 +53,19 @@ few-last f s r kind.Digests = search fews depth 16
 few-last f s r kind.Certificate = search fews depth 16
 few-last f s r kind.Challenge = search fews depth 16
 few-last f s r kind.Measurements = search fews depth 16
-few-last f s r kind.Unsupported = search fews depth 16
+
+few-asked : (f : Facts) (s : State) (r : List ℕ) (x : Asked) → Few (askedSteps f s r (λ (k : Kind). lastSteps f s r k) x)
+unfolding askedSteps kindSteps
+few-asked f s r (Served k) = search (fews, few-last) depth 16
+few-asked f s r Unserved = search fews depth 16
 
 few-request : (f : Facts) (s : State) (r : List ℕ) → Few (requestDecision f s r)
-unfolding requestDecision firstSteps kindSteps
-few-request f s r = search (fews, few-last) depth 16
+unfolding requestDecision firstSteps
+few-request f s r = search (fews, few-asked) depth 16
 
-pub few : (f : Facts) (s : State) (answerLength lentLength nonce : ℕ) (r : List ℕ) → Few (decisionOf f s answerLength lentLength nonce r)
+pub few : (f : Facts) (s : State) (lent : Lengths) (nonce : ℕ) (r : List ℕ) → Few (decisionOf f s lent nonce r)
 unfolding decisionOf
-few f s answerLength lentLength nonce r =
+few f s lent nonce r =
     few-pick _ _ _ (few-number _ (omega arith)) (few-pick _ _ _ (few-number _ (omega arith))
     (few-pick _ _ _ (few-pick _ _ _ (few-request f s r) (few-number _ (omega arith))) (few-number _ (omega arith))))
 

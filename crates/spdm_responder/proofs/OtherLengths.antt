@@ -10,46 +10,47 @@ use borrow.Author.Tests.{ne-eqb}
 use Rattle.wire.specs.Pick.{pick}
 use Rattle.image.specs.Contents.{Contents}
 use Rattle.image.specs.Reading.{Result, number, found}
-use Rattle.model.specs.Limits.{messageLimit, transcriptLength, nonceLength, shortAnswer, shortTranscript, wrongNonce, wrongState}
-use Rattle.model.specs.Facts.{Facts, factsOf}
-use Rattle.model.specs.State.{inBounds}
-use Rattle.model.specs.Decisions.{decisionOf}
-use Rattle.model.specs.Effects.{host, effectOf, effectBy}
-use Rattle.model.specs.Signing.{finishOf, finishBy}
-use Rattle.model.specs.declared.State.{State}
-use Rattle.model.specs.declared.Decision.the-variants as decision
-use Rattle.model.specs.declared.Finish.the-variants as finish
+use Rattle.rules.specs.Limits.{messageLimit, transcriptLength, nonceLength, shortAnswer, shortTranscript, wrongNonce, wrongState}
+use Rattle.rules.specs.Facts.{Facts, factsOf}
+use Rattle.rules.specs.State.{ownBounds, inBounds}
+use Rattle.rules.specs.Decisions.{decisionOf}
+use Rattle.rules.specs.Effects.{host, effectOf, effectBy}
+use Rattle.rules.specs.Signing.{finishOf, finishBy}
+use Rattle.rules.specs.declared.State.{State}
+use Rattle.rules.specs.declared.Lengths.{Lengths}
+use Rattle.rules.specs.declared.Decision.the-variants as decision
+use Rattle.rules.specs.declared.Finish.the-variants as finish
 use Rattle.spdm_responder.specs.Words.{stateWords, noState, stateIn, wordsAfter}
 
 -- the number of a request, and of a finishing, on such a state
-abbrev pub askedNumber : Result Contents → ℕ → ℕ → ℕ → ℕ
-askedNumber (number k) answerLength lentLength nonce = k
-askedNumber (found c) answerLength lentLength nonce =
-    pick (ltb answerLength messageLimit) shortAnswer (pick (ltb lentLength transcriptLength) shortTranscript (pick (eqb nonce nonceLength) wrongState wrongNonce))
+abbrev pub askedNumber : Result Contents → Lengths → ℕ → ℕ
+askedNumber (number k) lent nonce = k
+askedNumber (found c) lent nonce =
+    pick (ltb (lent .answer) messageLimit) shortAnswer (pick (ltb (lent .transcript) transcriptLength) shortTranscript (pick (eqb nonce nonceLength) wrongState wrongNonce))
 
-abbrev pub signedNumber : Result Contents → ℕ → ℕ → ℕ
-signedNumber (number k) answerLength lentLength = k
-signedNumber (found c) answerLength lentLength = pick (ltb answerLength messageLimit) shortAnswer (pick (ltb lentLength transcriptLength) shortTranscript wrongState)
+abbrev pub signedNumber : Result Contents → Lengths → ℕ
+signedNumber (number k) lent = k
+signedNumber (found c) lent = pick (ltb (lent .answer) messageLimit) shortAnswer (pick (ltb (lent .transcript) transcriptLength) shortTranscript wrongState)
 
 -- phase 4 is out of bounds for every image
 outside : (f : Facts) → inBounds f noState ≡ false
-unfolding inBounds pick
+unfolding ownBounds inBounds pick
 outside f = refl
 
-decided : (f : Facts) (answerLength lentLength nonce : ℕ) (r : List ℕ) (a b c : Bool) → ltb answerLength messageLimit ≡ a → ltb lentLength transcriptLength ≡ b → eqb nonce nonceLength ≡ c
-    → decisionOf f noState answerLength lentLength nonce r ≡ decision.Number (pick a shortAnswer (pick b shortTranscript (pick c wrongState wrongNonce)))
+decided : (f : Facts) (lent : Lengths) (nonce : ℕ) (r : List ℕ) (a b c : Bool) → ltb (lent .answer) messageLimit ≡ a → ltb (lent .transcript) transcriptLength ≡ b → eqb nonce nonceLength ≡ c
+    → decisionOf f noState lent nonce r ≡ decision.Number (pick a shortAnswer (pick b shortTranscript (pick c wrongState wrongNonce)))
 unfolding decisionOf pick
-decided f answerLength lentLength nonce r true b c p q g = rw p
-decided f answerLength lentLength nonce r false true c p q g = rw (p, q)
-decided f answerLength lentLength nonce r false false true p q g = rw (p, q, g, outside f)
-decided f answerLength lentLength nonce r false false false p q g = rw (p, q, g)
+decided f lent nonce r true b c p q g = rw p
+decided f lent nonce r false true c p q g = rw (p, q)
+decided f lent nonce r false false true p q g = rw (p, q, g, outside f)
+decided f lent nonce r false false false p q g = rw (p, q, g)
 
-finished : (f : Facts) (answerLength lentLength : ℕ) (ok : Bool) (size : ℕ) (a b : Bool) → ltb answerLength messageLimit ≡ a → ltb lentLength transcriptLength ≡ b
-    → finishOf f noState answerLength lentLength ok size ≡ finish.Number (pick a shortAnswer (pick b shortTranscript wrongState))
+finished : (f : Facts) (lent : Lengths) (ok : Bool) (size : ℕ) (a b : Bool) → ltb (lent .answer) messageLimit ≡ a → ltb (lent .transcript) transcriptLength ≡ b
+    → finishOf f noState lent ok size ≡ finish.Number (pick a shortAnswer (pick b shortTranscript wrongState))
 unfolding finishOf pick
-finished f answerLength lentLength ok size true b p q = rw p
-finished f answerLength lentLength ok size false true p q = rw (p, q)
-finished f answerLength lentLength ok size false false p q = rw (p, q, outside f)
+finished f lent ok size true b p q = rw p
+finished f lent ok size false true p q = rw (p, q)
+finished f lent ok size false false p q = rw (p, q, outside f)
 
 module _ (w : List ℕ) (n : length w ≡ stateWords → ⊥) where
   no-state : stateIn w ≡ noState
@@ -60,14 +61,14 @@ module _ (w : List ℕ) (n : length w ≡ stateWords → ⊥) where
   unfolding wordsAfter pick
   words-stay s = rw (ne-eqb (length w) stateWords n)
 
-  pub asked-number : (x : Result Contents) (answerLength lentLength : ℕ) (r nonce : List ℕ)
-      → effectBy x (stateIn w) answerLength lentLength r nonce ≡ host (askedNumber x answerLength lentLength (length nonce))
+  pub asked-number : (x : Result Contents) (lent : Lengths) (r nonce : List ℕ)
+      → effectBy x (stateIn w) lent r nonce ≡ host (askedNumber x lent (length nonce))
   unfolding effectBy effectOf
-  asked-number (number k) answerLength lentLength r nonce = refl
-  asked-number (found c) answerLength lentLength r nonce = rw (no-state, decided (factsOf c) answerLength lentLength (length nonce) r _ _ _ refl refl refl)
+  asked-number (number k) lent r nonce = refl
+  asked-number (found c) lent r nonce = rw (no-state, decided (factsOf c) lent (length nonce) r _ _ _ refl refl refl)
 
-  pub signed-number : (x : Result Contents) (answerLength lentLength : ℕ) (ok : Bool) (size : ℕ)
-      → finishBy x (stateIn w) answerLength lentLength ok size ≡ finish.Number (signedNumber x answerLength lentLength)
+  pub signed-number : (x : Result Contents) (lent : Lengths) (ok : Bool) (size : ℕ)
+      → finishBy x (stateIn w) lent ok size ≡ finish.Number (signedNumber x lent)
   unfolding finishBy
-  signed-number (number k) answerLength lentLength ok size = refl
-  signed-number (found c) answerLength lentLength ok size = rw (no-state) (finished (factsOf c) answerLength lentLength ok size _ _ refl refl)
+  signed-number (number k) lent ok size = refl
+  signed-number (found c) lent ok size = rw (no-state) (finished (factsOf c) lent ok size _ _ refl refl)

@@ -1,17 +1,17 @@
 -- What the host is shown to hash and sign for the state that it holds: the prefix, and where A, then B or M, stand in the transcript.
 use mathlib.Core.Path.{_≡_}
-use mathlib.Core.Bool.{Bool, true}
 use mathlib.Core.List.{List, [], _∷_}
 use Prim.Native.Nat.{ℕ}
-use lib.Dec.{ltb, leb, eqb}
+use lib.Dec.{ltb, eqb}
 use Rattle.wire.specs.Bytes.{splice}
 use Rattle.wire.specs.Pick.{pick}
-use Rattle.model.specs.Limits.{aLimit, bLimit, mLimit, aStart, bStart, mStart, phaseLimit, awaitsChallenge, awaitsMeasurements, shortAnswer, wrongState, nothingAwaited}
-use Rattle.model.specs.State.{allOf}
-use Rattle.model.specs.Signing.{prefixOf}
-use Rattle.model.specs.declared.State.{State}
-use Rattle.model.specs.declared.Reply.{Reply}
-use Rattle.model.specs.declared.Reply.the-variants as reply
+use Rattle.rules.specs.Limits.{aStart, bStart, mStart, awaitsNothing, awaitsChallenge, awaitsMeasurements, shortAnswer, wrongState}
+use Rattle.rules.specs.Limits.{nothingAwaited}
+use Rattle.rules.specs.State.{ownBounds}
+use Rattle.rules.specs.Signing.{prefixOf}
+use Rattle.rules.specs.declared.State.{State}
+use Rattle.rules.specs.declared.Reply.{Reply}
+use Rattle.rules.specs.declared.Reply.the-variants as reply
 use Rattle.spdm_responder.specs.Words.{resultOf}
 
 abbrev pub prefixLength : ℕ
@@ -21,41 +21,27 @@ prefixLength = 100
 abbrev pub partWords : ℕ
 partWords = 4
 
--- the state bounds that can be told without an image, as far as the parts go by them
-abbrev pub showTests : State → List Bool
-showTests s =
-    leb (s .phase) phaseLimit
-    ∷ leb (s .a) aLimit
-    ∷ leb (s .b) bLimit
-    ∷ leb (s .m) mLimit
-    ∷ leb (s .awaited) awaitsMeasurements
-    ∷ pick (eqb (s .awaited) 0) true (eqb (s .phase) 3)
-    ∷ []
-
-unfoldable pub canShow : State → Bool
-canShow s = allOf (showTests s)
-
--- 11, then 14, then 15, by the lengths of the two lent buffers; else the prefix's length
+-- 11, then 14 by the bounds that need no image, then 15; else the prefix's length
 unfoldable pub showReply : State → ℕ → ℕ → Reply
 showReply s prefix parts =
     pick (ltb prefix prefixLength) (reply.Number shortAnswer)
     (pick (ltb parts partWords) (reply.Number shortAnswer)
-    (pick (canShow s)
-    (pick (eqb (s .awaited) 0) (reply.Number nothingAwaited)
+    (pick (ownBounds s)
+    (pick (eqb (s .awaited .whose) awaitsNothing) (reply.Number nothingAwaited)
     (reply.Answer prefixLength))
     (reply.Number wrongState)))
 
 -- offset and length of A, then of B or M; nothing where no signature is awaited
 unfoldable pub partsOf : State → List ℕ
 partsOf s =
-    pick (eqb (s .awaited) awaitsChallenge) (aStart ∷ s .a ∷ bStart ∷ s .b ∷ [])
-    (pick (eqb (s .awaited) awaitsMeasurements) (aStart ∷ s .a ∷ mStart ∷ s .m ∷ [])
+    pick (eqb (s .awaited .whose) awaitsChallenge) (aStart ∷ s .used .a ∷ bStart ∷ s .used .b ∷ [])
+    (pick (eqb (s .awaited .whose) awaitsMeasurements) (aStart ∷ s .used .a ∷ mStart ∷ s .used .m ∷ [])
     [])
 
 -- what is written: nothing with a number
 abbrev pub shownPrefix : Reply → State → List ℕ
 shownPrefix (reply.Number n) s = []
-shownPrefix (reply.Answer n) s = prefixOf (s .awaited)
+shownPrefix (reply.Answer n) s = prefixOf (s .awaited .whose)
 
 abbrev pub shownParts : Reply → State → List ℕ
 shownParts (reply.Number n) s = []

@@ -7,10 +7,11 @@ use lib.Dec.{eqb}
 use Rattle.wire.specs.Pick.{pick}
 use Rattle.image.specs.Contents.{Contents}
 use Rattle.image.specs.Reading.{Result, number, found}
-use Rattle.model.specs.Limits.{messageLimit, wrongSignature}
-use Rattle.model.specs.declared.State.{State}
-use Rattle.model.specs.declared.Reply.{Reply}
-use Rattle.model.specs.declared.Reply.the-variants as reply
+use Rattle.rules.specs.Limits.{messageLimit, wrongSignature}
+use Rattle.rules.specs.State.{clearedAt, nothingUsed, noneAwaited}
+use Rattle.rules.specs.declared.State.{State}
+use Rattle.rules.specs.declared.Reply.{Reply}
+use Rattle.rules.specs.declared.Reply.the-variants as reply
 
 abbrev pub stateWords : ℕ
 stateWords = 8
@@ -21,26 +22,25 @@ noPhase = 4
 
 -- a state that is out of bounds for every image
 abbrev pub noState : State
-noState = record { phase = noPhase; peer = 0; selection = 0; a = 0; b = 0; m = 0; awaited = 0; answer = 0 }
+noState = record { negotiated = clearedAt noPhase; used = nothingUsed; awaited = noneAwaited }
 
 -- the state that the words hold; any other number of words holds a state that is out of bounds
 unfoldable pub stateIn : List ℕ → State
 stateIn w =
     pick (eqb (length w) stateWords)
     (record {
-      phase = getD w 0 0;
-      peer = getD w 1 0;
-      selection = getD w 2 0;
-      a = getD w 3 0;
-      b = getD w 4 0;
-      m = getD w 5 0;
-      awaited = getD w 6 0;
-      answer = getD w 7 0;
+      negotiated = record { phase = getD w 0 0; peer = getD w 1 0; selection = getD w 2 0 };
+      used = record { a = getD w 3 0; b = getD w 4 0; m = getD w 5 0 };
+      awaited = record { whose = getD w 6 0; length = getD w 7 0 };
     })
     noState
 
 abbrev pub wordsOf : State → List ℕ
-wordsOf s = s .phase ∷ s .peer ∷ s .selection ∷ s .a ∷ s .b ∷ s .m ∷ s .awaited ∷ s .answer ∷ []
+wordsOf s =
+    s .negotiated .phase ∷ s .negotiated .peer ∷ s .negotiated .selection
+    ∷ s .used .a ∷ s .used .b ∷ s .used .m
+    ∷ s .awaited .whose ∷ s .awaited .length
+    ∷ []
 
 -- what the host's words hold once a state was put there; any other number of words stays as it is
 unfoldable pub wordsAfter : List ℕ → State → List ℕ

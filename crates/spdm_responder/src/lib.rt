@@ -1,32 +1,35 @@
-// The responder as C calls it: slices are a pointer and a length, the state is eight words, and a result is number · 65,536 + answer length.
-// Nothing is asked of a caller but lent memory: every length is tested.
+// The responder as C calls it: slices are a pointer and a length, the state is eight words, and a result is number · 65,536 +
+// answer length. Nothing is asked of a caller but lent memory: every length is tested.
 use image::Verdict;
-use model::Reply;
-use model::State;
-use model::limits::A_LIMIT;
-use model::limits::AWAITS_CHALLENGE;
-use model::limits::AWAITS_MEASUREMENTS;
-use model::limits::B_LIMIT;
-use model::limits::B_START;
-use model::limits::M_LIMIT;
-use model::limits::M_START;
-use model::limits::NOTHING_AWAITED;
-use model::limits::PHASE_LIMIT;
-use model::limits::SHORT_ANSWER;
-use model::limits::WRONG_STATE;
+use rules::Awaited;
+use rules::Negotiated;
+use rules::Reply;
+use rules::State;
+use rules::Used;
+use rules::limits::A_START;
+use rules::limits::AWAITS_CHALLENGE;
+use rules::limits::AWAITS_MEASUREMENTS;
+use rules::limits::AWAITS_NOTHING;
+use rules::limits::B_START;
+use rules::limits::M_START;
+use rules::limits::NOTHING_AWAITED;
+use rules::limits::SHORT_ANSWER;
+use rules::limits::WRONG_STATE;
 ghost use mathlib.Core.Path.{_≡_};
 ghost use mathlib.Core.List.{[], _∷_};
 ghost use Prim.Native.Nat.{_≤_};
 ghost use lib.ListN.{length};
 ghost use Rattle.wire.specs.Bytes.{splice};
 ghost use Rattle.image.specs.Reading.{reading};
-ghost use Rattle.model.specs.Effects.{effectBy};
-ghost use Rattle.model.specs.Signing.{finishBy};
+ghost use Rattle.rules.specs.Effects.{Effect, effectBy};
+ghost use Rattle.rules.specs.Signing.{finishBy};
+ghost use Rattle.rules.specs.Box.{Lent, lengthsOf};
+ghost use Rattle.rules.specs.declared.Finish.{Finish};
 ghost use Rattle.spdm_responder.specs.Words.{noState, stateIn, wordsAfter, resultOf, Fits, readReply, chipOk};
 ghost use Rattle.spdm_responder.specs.Calls.{Asked, Signed};
-ghost use Rattle.spdm_responder.specs.ToSign.{canShow, showReply, partsOf, Shown};
+ghost use Rattle.spdm_responder.specs.ToSign.{showReply, partsOf, Shown};
 
-// The C interface's own sizes; those of the paper are model's.
+// The C interface's own sizes; those of the paper are rules'.
 const STATE_WORDS: usize = 8;
 
 const PREFIX_LENGTH: usize = 100;
@@ -37,21 +40,19 @@ const NUMBER_UNIT: u32 = 65536;
 
 const NO_PHASE: u32 = 4;
 
-const A_START: u32 = 0;
-
 // A state that is out of bounds for every image.
 fn no_state() -> State
     ensures { λ r. ⌜ r ≡ noState ⌝ }
 {
-    State {
+    let fresh = state::fresh();
+    let n = fresh.negotiated;
+    let negotiated = Negotiated {
         phase: NO_PHASE,
-        peer: 0,
-        selection: 0,
-        a: 0,
-        b: 0,
-        m: 0,
-        awaited: 0,
-        answer: 0,
+        ..n
+    };
+    State {
+        negotiated,
+        ..fresh
     }
 }
 
@@ -63,14 +64,20 @@ fn state_in(words: &[u32]) -> State
         return no_state();
     }
     State {
-        phase: words[0],
-        peer: words[1],
-        selection: words[2],
-        a: words[3],
-        b: words[4],
-        m: words[5],
-        awaited: words[6],
-        answer: words[7],
+        negotiated: Negotiated {
+            phase: words[0],
+            peer: words[1],
+            selection: words[2],
+        },
+        used: Used {
+            a: words[3],
+            b: words[4],
+            m: words[5],
+        },
+        awaited: Awaited {
+            whose: words[6],
+            length: words[7],
+        },
     }
 }
 
@@ -81,14 +88,17 @@ fn put_state(words: &mut [u32], s: State)
     if words.len() != STATE_WORDS {
         return;
     }
-    words[0] = s.phase;
-    words[1] = s.peer;
-    words[2] = s.selection;
-    words[3] = s.a;
-    words[4] = s.b;
-    words[5] = s.m;
-    words[6] = s.awaited;
-    words[7] = s.answer;
+    let n = s.negotiated;
+    let u = s.used;
+    let w = s.awaited;
+    words[0] = n.phase;
+    words[1] = n.peer;
+    words[2] = n.selection;
+    words[3] = u.a;
+    words[4] = u.b;
+    words[5] = u.m;
+    words[6] = w.whose;
+    words[7] = w.length;
 }
 
 // What a call returns to the host.
@@ -112,7 +122,12 @@ pub extern "C" fn spdm_respond(
     request: &[u8],
     nonce: &[u8],
 ) -> u32
-    ensures { λ r. ⌜ Asked (effectBy (reading (now (image .entry))) (stateIn (now (state .entry))) (length (now (answer .entry))) (length (now (transcript .entry))) (now (request .entry)) (now (nonce .entry))) (now (state .entry)) (now (state .exit)) (now (transcript .entry)) (now (transcript .exit)) (now (answer .entry)) (now (answer .exit)) r ⌝ }
+    ensures { λ r. ⌜ (
+        let before : Lent = record { transcript = now (transcript .entry); answer = now (answer .entry) } in
+        let after : Lent = record { transcript = now (transcript .exit); answer = now (answer .exit) } in
+        let s : State = stateIn (now (state .entry)) in
+        let e : Effect = effectBy (reading (now (image .entry))) s (lengthsOf before) (now (request .entry)) (now (nonce .entry)) in
+        Asked e (now (state .entry)) (now (state .exit)) before after r) ⌝ }
 {
     let s = state_in(state);
     let o = responder::respond(image, s, transcript, answer, request, nonce);
@@ -142,7 +157,11 @@ pub extern "C" fn spdm_finish(
     chip: u32,
     signature: &[u8],
 ) -> u32
-    ensures { λ r. ⌜ Signed (finishBy (reading (now (image .entry))) (stateIn (now (state .entry))) (length (now (answer .entry))) (length (now (transcript .entry))) (chipOk chip) (length (now (signature .entry)))) (now (state .entry)) (now (state .exit)) (now (answer .entry)) (now (answer .exit)) (now (signature .entry)) r ⌝ }
+    ensures { λ r. ⌜ (
+        let before : Lent = record { transcript = now (transcript .entry); answer = now (answer .entry) } in
+        let s : State = stateIn (now (state .entry)) in
+        let d : Finish = finishBy (reading (now (image .entry))) s (lengthsOf before) (chipOk chip) (length (now (signature .entry))) in
+        Signed d (now (state .entry)) (now (state .exit)) (now (answer .entry)) (now (answer .exit)) (now (signature .entry)) r) ⌝ }
 {
     let s = state_in(state);
     let ok = chip_ok(chip);
@@ -151,31 +170,6 @@ pub extern "C" fn spdm_finish(
     let next = o.state;
     put_state(state, next);
     result_of(reply)
-}
-
-// Whether the parts of the transcript can be shown for a state.
-fn can_show(s: State) -> bool
-    ensures { λ r. ⌜ r ≡ canShow s ⌝ }
-{
-    if PHASE_LIMIT < s.phase {
-        return false;
-    }
-    if A_LIMIT < s.a {
-        return false;
-    }
-    if B_LIMIT < s.b {
-        return false;
-    }
-    if M_LIMIT < s.m {
-        return false;
-    }
-    if AWAITS_MEASUREMENTS < s.awaited {
-        return false;
-    }
-    if s.awaited == 0 {
-        return true;
-    }
-    s.phase == 3
 }
 
 // A number, or the prefix's length.
@@ -188,10 +182,11 @@ fn decide_show(s: State, prefix: usize, parts: usize) -> Reply
     if parts < PART_WORDS {
         return Reply::Number(SHORT_ANSWER);
     }
-    if !can_show(s) {
+    if !state::own_bounds(s) {
         return Reply::Number(WRONG_STATE);
     }
-    if s.awaited == 0 {
+    let w = s.awaited;
+    if w.whose == AWAITS_NOTHING {
         return Reply::Number(NOTHING_AWAITED);
     }
     Reply::Answer(PREFIX_LENGTH)
@@ -212,28 +207,34 @@ fn write_parts(s: State, out: &mut [u32])
     requires { ⌜ 4 ≤ length (now out) ⌝ }
     ensures { λ _. ⌜ now (out .exit) ≡ splice (now (out .entry)) 0 (partsOf s) ⌝ }
 {
-    if s.awaited == AWAITS_CHALLENGE {
-        write_four(out, A_START, s.a, B_START as u32, s.b);
+    let u = s.used;
+    let w = s.awaited;
+    if w.whose == AWAITS_CHALLENGE {
+        write_four(out, A_START as u32, u.a, B_START as u32, u.b);
         return;
     }
-    if s.awaited == AWAITS_MEASUREMENTS {
-        write_four(out, A_START, s.a, M_START as u32, s.m);
+    if w.whose == AWAITS_MEASUREMENTS {
+        write_four(out, A_START as u32, u.a, M_START as u32, u.m);
     }
 }
 
 // What to hash and sign for the state that the host holds.
 #[no_mangle]
 pub extern "C" fn spdm_to_sign(state: &[u32], prefix: &mut [u8], parts: &mut [u32]) -> u32
-    ensures { λ r. ⌜ Shown (showReply (stateIn (now (state .entry))) (length (now (prefix .entry))) (length (now (parts .entry)))) (stateIn (now (state .entry))) (now (prefix .entry)) (now (prefix .exit)) (now (parts .entry)) (now (parts .exit)) r ⌝ }
+    ensures { λ r. ⌜ (
+        let s : State = stateIn (now (state .entry)) in
+        let y : Reply = showReply s (length (now (prefix .entry))) (length (now (parts .entry))) in
+        Shown y s (now (prefix .entry)) (now (prefix .exit)) (now (parts .entry)) (now (parts .exit)) r) ⌝ }
 {
     let s = state_in(state);
+    let w = s.awaited;
     let reply = decide_show(s, prefix.len(), parts.len());
     match reply {
-        Reply::Number(number) => number * NUMBER_UNIT,
-        Reply::Answer(length) => {
-            signing::write_prefix(s.awaited, prefix);
+        Reply::Number(_) => result_of(reply),
+        Reply::Answer(_) => {
+            signing::write_prefix(w.whose, prefix);
             write_parts(s, parts);
-            length as u32
+            result_of(reply)
         }
     }
 }
@@ -243,10 +244,10 @@ pub extern "C" fn spdm_to_sign(state: &[u32], prefix: &mut [u8], parts: &mut [u3
 pub extern "C" fn spdm_read_image(image: &[u8]) -> u32
     ensures { λ r. ⌜ r ≡ resultOf (readReply (reading (now (image .entry)))) ⌝ }
 {
-    let read = reader::read_image(image);
+    let read = image_reader::read_image(image);
     let verdict = read.verdict;
     match verdict {
-        Verdict::Refused(n) => n as u32 * NUMBER_UNIT,
-        Verdict::Accepted => 0,
+        Verdict::Refused(n) => result_of(Reply::Number(n as u32)),
+        Verdict::Accepted => result_of(Reply::Answer(0)),
     }
 }

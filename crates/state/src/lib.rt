@@ -1,129 +1,171 @@
-// The connection state that the host holds: the fresh one, the bounds of any that it hands in (number 14), and what a refusal leaves.
-use image::Index;
-use model::State;
-use model::limits::A_LIMIT;
-use model::limits::AWAITS_MEASUREMENTS;
-use model::limits::B_LIMIT;
-use model::limits::CAPABILITIES_USED;
-use model::limits::FIELDS_STEP;
-use model::limits::GET_MEASUREMENTS;
-use model::limits::M_LIMIT;
-use model::limits::MESSAGE_LIMIT;
-use model::limits::PEER_LEAST;
-use model::limits::PHASE_LIMIT;
-use model::limits::ROOM_STEP;
-use model::limits::VERSION_USED;
+// The connection state that the host holds: the fresh one, the bounds of any that it hands in (number 14), what a refusal leaves, and the
+// version byte that goes by it.
+use rules::Awaited;
+use rules::Negotiated;
+use rules::State;
+use rules::Used;
+use rules::limits::A_LIMIT;
+use rules::limits::ALGORITHMS_PHASE;
+use rules::limits::AWAITS_MEASUREMENTS;
+use rules::limits::AWAITS_NOTHING;
+use rules::limits::B_LIMIT;
+use rules::limits::CAPABILITIES_PHASE;
+use rules::limits::CAPABILITIES_USED;
+use rules::limits::FIELDS_STEP;
+use rules::limits::FRESH_PHASE;
+use rules::limits::GET_MEASUREMENTS;
+use rules::limits::HEADER_LENGTH;
+use rules::limits::M_LIMIT;
+use rules::limits::MESSAGE_LIMIT;
+use rules::limits::PEER_LEAST;
+use rules::limits::ROOM_STEP;
+use rules::limits::VERSION_10;
+use rules::limits::VERSION_12;
+use rules::limits::VERSION_PHASE;
+use rules::limits::VERSION_USED;
 ghost use mathlib.Core.Path.{_≡_};
-ghost use mathlib.Core.List.{List};
-ghost use Prim.Native.Nat.{ℕ};
-ghost use Rattle.model.specs.State.{fresh as freshState, holdsOnly, phaseFits, selectionFits, awaitedFits, inBounds};
-ghost use Rattle.model.specs.Facts.{factsAt};
-ghost use Rattle.model.specs.Effects.{keptByRefusal};
-ghost use Rattle.model.specs.Box.{refusedState};
+ghost use Rattle.rules.specs.State.{fresh as freshState, holdsOnly, phaseFits, selectionFits, awaitedFits, ownBounds};
+ghost use Rattle.rules.specs.State.{selectionHeld, awaitedLong, inBounds};
+ghost use Rattle.rules.specs.Facts.{Facts};
+ghost use Rattle.rules.specs.Header.{versionOf};
+ghost use Rattle.rules.specs.Parts.{keptByRefusal};
+ghost use Rattle.rules.specs.Box.{refusedState};
 
 // The state of a connection on which nothing was said yet.
 pub fn fresh() -> State
     ensures { λ r. ⌜ r ≡ freshState ⌝ }
 {
     State {
-        phase: 0,
-        peer: 0,
-        selection: 0,
-        a: 0,
-        b: 0,
-        m: 0,
-        awaited: 0,
-        answer: 0,
+        negotiated: Negotiated {
+            phase: FRESH_PHASE,
+            peer: 0,
+            selection: 0,
+        },
+        used: Used { a: 0, b: 0, m: 0 },
+        awaited: Awaited {
+            whose: AWAITS_NOTHING,
+            length: 0,
+        },
     }
 }
 
-fn holds_only(s: State, n: u32) -> bool
-    ensures { λ r. ⌜ r ≡ holdsOnly s n ⌝ }
+fn holds_only(u: Used, n: u32) -> bool
+    ensures { λ r. ⌜ r ≡ holdsOnly u n ⌝ }
 {
-    if s.a != n {
+    if u.a != n {
         return false;
     }
-    if s.b != 0 {
+    if u.b != 0 {
         return false;
     }
-    s.m == 0
+    u.m == 0
 }
 
-fn phase_fits(s: State) -> bool
-    ensures { λ r. ⌜ r ≡ phaseFits s ⌝ }
+fn phase_fits(n: Negotiated, u: Used) -> bool
+    ensures { λ r. ⌜ r ≡ phaseFits n u ⌝ }
 {
-    if s.phase == 0 {
-        return holds_only(s, 0);
+    if n.phase == FRESH_PHASE {
+        return holds_only(u, 0);
     }
-    if s.phase == 1 {
-        return holds_only(s, VERSION_USED);
+    if n.phase == VERSION_PHASE {
+        return holds_only(u, VERSION_USED);
     }
-    if s.peer < PEER_LEAST {
+    if n.peer < PEER_LEAST {
         return false;
     }
-    if s.phase == 2 {
-        return holds_only(s, CAPABILITIES_USED);
+    if n.phase == CAPABILITIES_PHASE {
+        return holds_only(u, CAPABILITIES_USED);
     }
     true
 }
 
-fn selection_fits(ix: Index, s: State) -> bool
-    ensures { λ r. ⌜ ((b : List ℕ) → r ≡ selectionFits (factsAt b ix) s) ⌝ }
+fn selection_fits(n: Negotiated) -> bool
+    ensures { λ r. ⌜ r ≡ selectionFits n ⌝ }
 {
-    if s.selection == 0 {
+    if n.selection == 0 {
         return true;
     }
-    if s.selection != 1 {
+    if n.selection != 1 {
         return false;
     }
-    if s.phase != 3 {
-        return false;
-    }
-    0 < ix.measurements
+    n.phase == ALGORITHMS_PHASE
 }
 
-fn awaited_fits(ix: Index, s: State) -> bool
-    ensures { λ r. ⌜ ((b : List ℕ) → r ≡ awaitedFits (factsAt b ix) s) ⌝ }
+fn awaited_fits(n: Negotiated, w: Awaited) -> bool
+    ensures { λ r. ⌜ r ≡ awaitedFits n w ⌝ }
 {
-    if s.awaited == 0 {
+    if w.whose == AWAITS_NOTHING {
         return true;
     }
-    if AWAITS_MEASUREMENTS < s.awaited {
+    if AWAITS_MEASUREMENTS < w.whose {
         return false;
     }
-    if s.phase != 3 {
+    if n.phase != ALGORITHMS_PHASE {
         return false;
     }
-    let length = s.answer as usize;
-    if length < 4 + image::signature_size(ix.signature) {
-        return false;
-    }
-    length <= MESSAGE_LIMIT
+    w.length as usize <= MESSAGE_LIMIT
 }
 
-// Whether a state that the host hands in lies within its bounds, for the image that is lent with it.
-pub fn in_bounds(ix: Index, s: State) -> bool
-    ensures { λ r. ⌜ ((b : List ℕ) → r ≡ inBounds (factsAt b ix) s) ⌝ }
+// Whether a state that the host hands in lies within the bounds that need no image.
+pub fn own_bounds(s: State) -> bool
+    ensures { λ r. ⌜ r ≡ ownBounds s ⌝ }
 {
-    if PHASE_LIMIT < s.phase {
+    let n = s.negotiated;
+    let u = s.used;
+    let w = s.awaited;
+    if ALGORITHMS_PHASE < n.phase {
         return false;
     }
-    if A_LIMIT < s.a {
+    if A_LIMIT < u.a {
         return false;
     }
-    if B_LIMIT < s.b {
+    if B_LIMIT < u.b {
         return false;
     }
-    if M_LIMIT < s.m {
+    if M_LIMIT < u.m {
         return false;
     }
-    if !phase_fits(s) {
+    if !phase_fits(n, u) {
         return false;
     }
-    if !selection_fits(ix, s) {
+    if !selection_fits(n) {
         return false;
     }
-    awaited_fits(ix, s)
+    awaited_fits(n, w)
+}
+
+fn selection_held(measurements: u8, n: Negotiated) -> bool
+    ensures { λ r. ⌜ ((f : Facts) → f .measurements ≡ measurements → r ≡ selectionHeld f n) ⌝ }
+{
+    if n.selection == 0 {
+        return true;
+    }
+    0 < measurements
+}
+
+fn awaited_long(signature: u8, w: Awaited) -> bool
+    ensures { λ r. ⌜ ((f : Facts) → f .identity .signature ≡ signature → r ≡ awaitedLong f w) ⌝ }
+{
+    if w.whose == AWAITS_NOTHING {
+        return true;
+    }
+    HEADER_LENGTH + image::signature_size(signature) <= w.length as usize
+}
+
+// Whether a state that the host hands in lies within its bounds, for an image with so many measurements and that signature number.
+pub fn in_bounds(measurements: u8, signature: u8, s: State) -> bool
+    ensures { λ r. ⌜ ((f : Facts) → f .measurements ≡ measurements → f .identity .signature ≡ signature →
+        r ≡ inBounds f s) ⌝ }
+{
+    let n = s.negotiated;
+    let w = s.awaited;
+    if !own_bounds(s) {
+        return false;
+    }
+    if !selection_held(measurements, n) {
+        return false;
+    }
+    awaited_long(signature, w)
 }
 
 // What a refusal leaves, by its step and the request's code: a GET_MEASUREMENTS that is refused at step 7, 8 or 9 empties M.
@@ -139,5 +181,17 @@ pub fn refused(s: State, step: u8, asked: u8) -> State
     if ROOM_STEP < step {
         return s;
     }
-    State { m: 0, ..s }
+    let u = s.used;
+    let used = Used { m: 0, ..u };
+    State { used, ..s }
+}
+
+// The version byte of an answer, by what is negotiated with it.
+pub fn version_of(n: Negotiated) -> u8
+    ensures { λ r. ⌜ r ≡ versionOf n ⌝ }
+{
+    if n.phase < CAPABILITIES_PHASE {
+        return VERSION_10;
+    }
+    VERSION_12
 }

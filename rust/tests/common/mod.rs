@@ -8,9 +8,9 @@ pub fn file(name: &str) -> PathBuf {
     Path::new(env!("CARGO_MANIFEST_DIR")).join("..").join(name)
 }
 
-/// The lines that a program of the repository reads: the vectors' only copy.
-pub fn read_lines(program: &str) -> Vec<String> {
-    let path = file("crates").join(program).join("stdin");
+/// The lines of a file that the program `vectors` runs: the vectors' only copy.
+pub fn read_lines(name: &str) -> Vec<String> {
+    let path = file("crates/vectors/data").join(name);
     let text = fs::read_to_string(&path).unwrap_or_else(|error| panic!("{}: {error}", path.display()));
     text.lines().map(str::to_owned).collect()
 }

@@ -1,236 +1,119 @@
--- The decision is the rules' own, taken off the index; each arm carries it out as its function promises, and what the decision tells meets
--- what that function asks. Assumes nothing.
-use borrow.Author.Needs.{needs}
-use mathlib.Core.Path.{_≡_, refl, sym, ap, _∙_, subst}
+-- The decision is the rules' own, taken off the index; an accepted one is written and carried out, whichever message answers it, and what is
+-- told of it meets what the two ask. Assumes nothing.
+use mathlib.Core.Path.{_≡_, refl, sym, ap, subst, _∙_}
 use mathlib.Core.List.{List}
 use Prim.Native.Nat.{ℕ}
 use lib.ListN.{length}
+use Rattle.wire.specs.Bytes.{Bytes}
 use Rattle.image.specs.Contents.{Contents}
-use Rattle.model.specs.Facts.{Facts, factsAt, factsOf}
-use Rattle.model.specs.Decisions.{decisionOf}
-use Rattle.model.specs.Effects.{effectOf}
-use Rattle.model.specs.Box.{Responded}
-use Rattle.model.specs.declared.Decision.{Decision}
-use Rattle.model.specs.declared.Outcome.{Outcome}
-use Rattle.model.proofs.Told.{Told, told}
-use Rattle.image.specs.Read.{ReadAs, Fine}
-use Rattle.image.proofs.Given.{known-fine}
-use Rattle.model.proofs.SameFacts.{facts}
-use Rattle.state.proofs.Counts.{within}
-use Rattle.responder.proofs.Accepts.{algorithms-any, no-answer}
+use Rattle.image.specs.Read.{ReadAs}
+use Rattle.image.proofs.Given.{valid}
+use Rattle.rules.specs.Facts.{Facts, factsAt, factsOf}
+use Rattle.rules.specs.Decisions.{decisionOf}
+use Rattle.rules.specs.Effects.{effectOf}
+use Rattle.rules.specs.Box.{Lent, lengthsOf, Responded}
+use Rattle.rules.specs.declared.Negotiated.{Negotiated}
+use Rattle.rules.specs.declared.Message.{Message}
+use Rattle.rules.specs.declared.Exchange.{Exchange}
+use Rattle.rules.specs.declared.Decision.{Decision}
+use Rattle.rules.specs.declared.Decision.the-variants as decision
+use Rattle.rules.specs.declared.Outcome.{Outcome}
+use Rattle.rules.proofs.Told.{Accepted, accepted}
+use Rattle.rules.proofs.SameFacts.{facts}
+use Rattle.responder.proofs.Carries.{no-answer, measured, responded}
+use borrow.Author.Needs.{needs}
 use Rattle.responder.proofs.answer_request.Statement.{statement}
 use Rattle.responder.proofs.answer_request.Tie as tie
 
--- what the decision tells, at its place
-told-at : (c : tie.After-decide) (d : Decision) → c .decide .result ≡ d
-    → Told (factsAt (c .before .before .before .before .before .before .args .image .now) (c .before .before .before .before .before .before .args .ix)) (c .before .before .before .before .before .before .args .s) (length (c .before .before .before .before .before .before .args .answer .now)) (length (c .before .before .before .before .before .before .args .transcript .now)) (length (c .before .before .before .before .before .before .args .nonce .now)) (c .before .before .before .before .before .before .args .request .now) d
-told-at c d e =
-    subst
-    (λ (x : Decision). Told (factsAt (c .before .before .before .before .before .before .args .image .now) (c .before .before .before .before .before .before .args .ix)) (c .before .before .before .before .before .before .args .s) (length (c .before .before .before .before .before .before .args .answer .now)) (length (c .before .before .before .before .before .before .args .transcript .now)) (length (c .before .before .before .before .before .before .args .nonce .now)) (c .before .before .before .before .before .before .args .request .now) x)
-    (sym (c .decide .ensures) ∙ e)
-    (told _ _ _ _ _ _)
+-- the places that the lemmas below speak of, and the buffers as they were lent
+abbrev start : tie.After-decide → tie.Start
+start c = search
 
-fine-at : (c : tie.After-decide) → Fine (c .before .before .before .before .before .before .args .ix)
-fine-at c = known-fine {b = c .before .before .before .before .before .before .args .image .now} (λ i. c .before .before .before .before .before .shared-slice-known .given i .fits) (c .before .before .before .before .before .before .pre)
+abbrev octets : (c : tie.After-decide) → Bytes (start c .args .image .now)
+octets c = let known : tie.After-shared-slice-known = search in λ i. known .shared-slice-known .given i .fits
 
--- what was carried out is what the rules make of the contents
-settled : (c : tie.After-decide) (k : Contents) → ReadAs (c .before .before .before .before .before .before .args .image .now) (c .before .before .before .before .before .before .args .ix) k → (d : Decision) → c .decide .result ≡ d
-    → (u after : List ℕ) (o : Outcome)
-    → Responded (effectOf d k (c .before .before .before .before .before .before .args .s) (c .before .before .before .before .before .before .args .nonce .now) (c .before .before .before .before .before .before .args .request .now)) (c .before .before .before .before .before .before .args .s) (c .before .before .before .before .before .before .args .transcript .now) u (c .before .before .before .before .before .before .args .answer .now) after o
-    → Responded (effectOf (decisionOf (factsOf k) (c .before .before .before .before .before .before .args .s) (length (c .before .before .before .before .before .before .args .answer .now)) (length (c .before .before .before .before .before .before .args .transcript .now)) (length (c .before .before .before .before .before .before .args .nonce .now)) (c .before .before .before .before .before .before .args .request .now)) k (c .before .before .before .before .before .before .args .s) (c .before .before .before .before .before .before .args .nonce .now) (c .before .before .before .before .before .before .args .request .now)) (c .before .before .before .before .before .before .args .s) (c .before .before .before .before .before .before .args .transcript .now) u (c .before .before .before .before .before .before .args .answer .now) after o
-settled c k rd d e u after o v =
-    let a = c .before .before .before .before .before .before .args in
-    let f = facts {b = a .image .now} (λ i. c .before .before .before .before .before .shared-slice-known .given i .fits) rd in
-    let q : d ≡ decisionOf (factsOf k) (a .s) (length (a .answer .now)) (length (a .transcript .now)) (length (a .nonce .now)) (a .request .now) =
-    sym e ∙ c .decide .ensures ∙ ap (λ (g : Facts). decisionOf g (a .s) (length (a .answer .now)) (length (a .transcript .now)) (length (a .nonce .now)) (a .request .now)) f in
-    subst (λ (x : Decision). Responded (effectOf x k (a .s) (a .nonce .now) (a .request .now)) (a .s) (a .transcript .now) u (a .answer .now) after o) q v
+abbrev lent : tie.Start → Lent
+lent s = record { transcript = s .args .transcript .now; answer = s .args .answer .now }
 
-decide-requires : tie.Need-decide-requires
-decide-requires c κs = search needs
+-- what a call decides, by the facts that it goes by, and what was done of a decision
+abbrev decided : tie.Start → Facts → Decision
+decided s f = let a = s .args in decisionOf f (a .s) (lengthsOf (lent s)) (length (a .nonce .now)) (a .request .now)
 
-enum-known-d : tie.Need-enum-known-d
-enum-known-d c = search needs
+abbrev Done : tie.Start → Decision → Contents → Lent → Outcome → Type 0
+Done s d k after o = let a = s .args in Responded (effectOf d k (a .s) (a .nonce .now) (a .request .now)) (a .s) (lent s) after o
 
-enum-known-d-2 : tie.Need-enum-known-d-2
-enum-known-d-2 c = search needs
+abbrev Takes : tie.Start → Facts → Message → Negotiated → Exchange → Type 0
+Takes s f m n x = let a = s .args in Accepted f (a .s) (lengthsOf (lent s)) (length (a .nonce .now)) (a .request .now) m n x
 
-refuse-requires : tie.Need-refuse-requires
-refuse-requires c κs = search needs
+-- the image's own facts, or those of the contents that it reads as
+off-index : (c : tie.After-decide) (m : Message) (n : Negotiated) (x : Exchange) → c .decide .result ≡ decision.Accepted m n x
+    → Takes (start c) (factsAt (start c .args .image .now) (start c .args .ix)) m n x
+off-index c m n x e = accepted _ _ _ _ _ _ _ _ (sym (c .decide .ensures) ∙ e)
 
-enum-known-d-3 : tie.Need-enum-known-d-3
-enum-known-d-3 c = search needs
+by-contents : (c : tie.After-decide) (k : Contents) → ReadAs (start c .args .image .now) (start c .args .ix) k → (d : Decision)
+    → c .decide .result ≡ d → decided (start c) (factsOf k) ≡ d
+by-contents c k rd d e =
+    let f = facts {b = start c .args .image .now} (octets c) rd in
+    ap (decided (start c)) (sym f) ∙ sym (c .decide .ensures) ∙ e
 
-refuse-large-requires : tie.Need-refuse-large-requires
-refuse-large-requires c κs = search needs
+-- what was done is what the rules make of the contents
+settled : (c : tie.After-decide) (k : Contents) → ReadAs (start c .args .image .now) (start c .args .ix) k → (d : Decision)
+    → c .decide .result ≡ d → (after : Lent) (o : Outcome) → Done (start c) d k after o → Done (start c) (decided (start c) (factsOf k)) k after o
+settled c k rd d e after o v = subst (λ (x : Decision). Done (start c) x k after o) (sym (by-contents c k rd d e)) v
 
-enum-told : tie.Need-enum-told
-enum-told c = search needs
+write-message-requires : tie.Need-write-message-requires
+write-message-requires c κs =
+    let at : tie.After-d3 = search in let decide : tie.After-decide = search in
+    let z = off-index decide _ _ _ (at .d3 .given .1) in
+    (start decide .pre, (z .called .drawn, z .told .fields))
 
-accept-version-requires : tie.Need-accept-version-requires
-accept-version-requires c κs = let z = told-at (c .before .before .before .before) _ (c .before .before .enum-told .given .1) in (z .0 .buffer, z .1)
-
-enum-known-d-4 : tie.Need-enum-known-d-4
-enum-known-d-4 c = search needs
-
-accept-capabilities-requires : tie.Need-accept-capabilities-requires
-accept-capabilities-requires c κs = let z = told-at (c .before .before .before .before .before) _ (c .before .before .before .d4 .given .1) in (within _ _ (z .0 .bounds), (z .0 .buffer, z .1))
-
-enum-known-d-5 : tie.Need-enum-known-d-5
-enum-known-d-5 c = search needs
-
-accept-algorithms-requires : tie.Need-accept-algorithms-requires
-accept-algorithms-requires c κs = let z = told-at (c .before .before .before .before .before) _ (c .before .before .before .d5 .given .1) in (within _ _ (z .0 .bounds), (z .0 .buffer, (fine-at (c .before .before .before .before .before), λ b. algorithms-any _ b _ _ _ _ _ (z .1))))
-
-enum-told-2 : tie.Need-enum-told-2
-enum-told-2 c = search needs
-
-accept-digests-requires : tie.Need-accept-digests-requires
-accept-digests-requires c κs = let z = told-at (c .before .before .before .before) _ (c .before .before .enum-told2 .given .1) in ((c .before .before .before .before) .before .before .before .before .before .before .pre, (within _ _ (z .0 .bounds), (z .0 .buffer, z .1)))
-
-enum-known-d-6 : tie.Need-enum-known-d-6
-enum-known-d-6 c = search needs
-
-accept-certificate-requires : tie.Need-accept-certificate-requires
-accept-certificate-requires c κs = let z = told-at (c .before .before .before .before .before) _ (c .before .before .before .d6 .given .1) in ((c .before .before .before .before .before) .before .before .before .before .before .before .pre, (within _ _ (z .0 .bounds), (z .0 .buffer, z .1)))
-
-enum-known-d-7 : tie.Need-enum-known-d-7
-enum-known-d-7 c = search needs
-
-accept-challenge-requires : tie.Need-accept-challenge-requires
-accept-challenge-requires c κs = let z = told-at (c .before .before .before .before .before) _ (c .before .before .before .d7 .given .1) in ((c .before .before .before .before .before) .before .before .before .before .before .before .pre, (within _ _ (z .0 .bounds), (z .0 .buffer, (z .0 .drawn, z .1))))
-
-enum-known-d-8 : tie.Need-enum-known-d-8
-enum-known-d-8 c = search needs
-
-accept-measurements-requires : tie.Need-accept-measurements-requires
-accept-measurements-requires c κs = let z = told-at (c .before .before .before .before .before) _ (c .before .before .before .d8 .given .1) in ((c .before .before .before .before .before) .before .before .before .before .before .before .pre, (within _ _ (z .0 .bounds), (z .0 .buffer, (z .0 .drawn, z .1))))
+accept-requires : tie.Need-accept-requires
+accept-requires c κs =
+    let at : tie.After-d3 = search in let decide : tie.After-decide = search in
+    let e = at .d3 .given .1 in
+    let k = start decide .pre .held in
+    let rd = start decide .pre .same in
+    let a = start decide .args in
+    let z : Takes (start decide) (factsOf k) _ _ _ = accepted _ _ _ _ _ _ _ _ (by-contents decide k rd _ e) in
+    (measured k (valid (octets decide) rd) (a .s) (a .request .now) (a .nonce .now) _ _ _ (lent (start decide)) z, z .told .fitting)
 
 returns : tie.Need-returns
 unfolding effectOf
-returns c = λ k rd. settled (c .before .before .before) k rd _ (c .before .d .given .1) _ _ _ (record { reply = refl; state = refl; answer = no-answer _; transcript = refl })
-
-same-length : tie.Need-same-length
-same-length c = search needs
+returns c =
+    let at : tie.After-d = search in let decide : tie.After-decide = search in
+    λ k rd. settled decide k rd _ (at .d .given .1) _ _ (record { reply = refl; state = refl; answer = no-answer _; transcript = refl })
 
 returns-2 : tie.Need-returns-2
-returns-2 c = λ k rd. settled (c .before .before .before .before .before .before .before) k rd _ (c .before .before .before .before .before .d2 .given .1) _ _ _ (c .before .before .refuse .ensures k _ _)
-
-same-length-2 : tie.Need-same-length-2
-same-length-2 c = search needs
+returns-2 c =
+    let done : tie.After-refuse = search in let at : tie.After-d2 = search in let decide : tie.After-decide = search in
+    λ k rd. settled decide k rd _ (at .d2 .given .1) _ _ (done .refuse .ensures k _ _)
 
 returns-3 : tie.Need-returns-3
-returns-3 c = λ k rd. settled (c .before .before .before .before .before .before .before) k rd _ (c .before .before .before .before .before .d3 .given .1) _ _ _ (c .before .before .refuse-large .ensures k _ _)
-
-same-length-3 : tie.Need-same-length-3
-same-length-3 c = search needs
-
-same-length-4 : tie.Need-same-length-4
-same-length-4 c = search needs
-
-returns-4 : tie.Need-returns-4
-returns-4 c = λ k rd. settled (c .before .before .before .before .before .before .before .before .before) k rd _ (c .before .before .before .before .before .before .before .enum-told .given .1) _ _ _ (c .before .before .before .before .accept-version .ensures k _ _)
-
-same-length-5 : tie.Need-same-length-5
-same-length-5 c = search needs
-
-same-length-6 : tie.Need-same-length-6
-same-length-6 c = search needs
-
-returns-5 : tie.Need-returns-5
-returns-5 c = λ k rd. settled (c .before .before .before .before .before .before .before .before .before .before) k rd _ (c .before .before .before .before .before .before .before .before .d4 .given .1) _ _ _ (c .before .before .before .before .accept-capabilities .ensures k _ _ rd)
-
-same-length-7 : tie.Need-same-length-7
-same-length-7 c = search needs
-
-same-length-8 : tie.Need-same-length-8
-same-length-8 c = search needs
-
-returns-6 : tie.Need-returns-6
-returns-6 c = λ k rd. settled (c .before .before .before .before .before .before .before .before .before .before) k rd _ (c .before .before .before .before .before .before .before .before .d5 .given .1) _ _ _ (c .before .before .before .before .accept-algorithms .ensures k _ _ rd)
-
-same-length-9 : tie.Need-same-length-9
-same-length-9 c = search needs
-
-same-length-10 : tie.Need-same-length-10
-same-length-10 c = search needs
-
-returns-7 : tie.Need-returns-7
-returns-7 c = λ k rd. settled (c .before .before .before .before .before .before .before .before .before) k rd _ (c .before .before .before .before .before .before .before .enum-told2 .given .1) _ _ _ (c .before .before .before .before .accept-digests .ensures k _ rd)
-
-same-length-11 : tie.Need-same-length-11
-same-length-11 c = search needs
-
-same-length-12 : tie.Need-same-length-12
-same-length-12 c = search needs
-
-returns-8 : tie.Need-returns-8
-returns-8 c = λ k rd. settled (c .before .before .before .before .before .before .before .before .before .before) k rd _ (c .before .before .before .before .before .before .before .before .d6 .given .1) _ _ _ (c .before .before .before .before .accept-certificate .ensures k _ rd)
-
-same-length-13 : tie.Need-same-length-13
-same-length-13 c = search needs
-
-same-length-14 : tie.Need-same-length-14
-same-length-14 c = search needs
-
-returns-9 : tie.Need-returns-9
-returns-9 c = λ k rd. settled (c .before .before .before .before .before .before .before .before .before .before) k rd _ (c .before .before .before .before .before .before .before .before .d7 .given .1) _ _ _ (c .before .before .before .before .accept-challenge .ensures k rd)
-
-same-length-15 : tie.Need-same-length-15
-same-length-15 c = search needs
-
-same-length-16 : tie.Need-same-length-16
-same-length-16 c = search needs
-
-returns-10 : tie.Need-returns-10
-returns-10 c = λ k rd. settled (c .before .before .before .before .before .before .before .before .before .before) k rd _ (c .before .before .before .before .before .before .before .before .d8 .given .1) _ _ _ (c .before .before .before .before .accept-measurements .ensures k rd)
+returns-3 c =
+    let carried : tie.After-accept = search in let written : tie.After-write-message = search in
+    let at : tie.After-d3 = search in let decide : tie.After-decide = search in
+    λ k rd.
+    let e = at .d3 .given .1 in
+    let a = start decide .args in
+    let z : Takes (start decide) (factsOf k) _ _ _ = accepted _ _ _ _ _ _ _ _ (by-contents decide k rd _ e) in
+    settled decide k rd _ e _ _
+    (responded k (valid (octets decide) rd) (a .s) (a .request .now) (a .nonce .now) _ _ _ (lent (start decide)) _ _ _ z
+    (written .write-message .ensures k rd) (carried .accept .ensures))
 
 pub answer-request-spec : {M : Type 1} → statement M
 answer-request-spec =
     tie.close
     (tie.spec
-    decide-requires
-    enum-known-d
-    enum-known-d-2
-    refuse-requires
-    enum-known-d-3
-    refuse-large-requires
-    enum-told
-    accept-version-requires
-    enum-known-d-4
-    accept-capabilities-requires
-    enum-known-d-5
-    accept-algorithms-requires
-    enum-told-2
-    accept-digests-requires
-    enum-known-d-6
-    accept-certificate-requires
-    enum-known-d-7
-    accept-challenge-requires
-    enum-known-d-8
-    accept-measurements-requires
+    (λ c κs. search needs)
+    (λ c. search needs)
+    (λ c. search needs)
+    (λ c κs. search needs)
+    (λ c. search needs)
+    write-message-requires
+    accept-requires
     returns
-    same-length
+    (λ c. search needs)
     returns-2
-    same-length-2
-    returns-3
-    same-length-3
-    same-length-4
-    returns-4
-    same-length-5
-    same-length-6
-    returns-5
-    same-length-7
-    same-length-8
-    returns-6
-    same-length-9
-    same-length-10
-    returns-7
-    same-length-11
-    same-length-12
-    returns-8
-    same-length-13
-    same-length-14
-    returns-9
-    same-length-15
-    same-length-16
-    returns-10)
+    (λ c. search needs)
+    (λ c. search needs)
+    returns-3)

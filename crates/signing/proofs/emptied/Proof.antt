@@ -1,16 +1,12 @@
--- The awaited request says which count is emptied. Assumes nothing.
-use borrow.Author.Tests.{eq-eqb, ne-eqb}
-use Rattle.wire.specs.Pick.{pick}
+-- The parts that are kept, and nothing awaited. Assumes nothing.
+use borrow.Author.Needs.{needs}
 use Rattle.signing.proofs.emptied.Statement.{statement}
 use Rattle.signing.proofs.emptied.Tie as tie
 
-returns : tie.Need-returns
-unfolding pick
-returns c = simp (eq-eqb _ _ (c .if1 .taken))
-
-returns-2 : tie.Need-returns-2
-unfolding pick
-returns-2 c = simp (ne-eqb _ _ (c .if1 .left))
-
 pub emptied-spec : {M : Type 1} → statement M
-emptied-spec = tie.close (tie.spec returns returns-2)
+emptied-spec =
+    tie.close
+    (tie.spec
+    (λ c κs. search needs)
+    (λ c κs. search needs)
+    (λ c. let fresh : tie.After-fresh = search in let rest : tie.After-kept = search in rw (rest .kept .ensures, fresh .fresh .ensures)))

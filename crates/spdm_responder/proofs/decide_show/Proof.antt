@@ -6,29 +6,14 @@ use borrow.Author.Needs.{needs}
 use Rattle.spdm_responder.proofs.decide_show.Statement.{statement}
 use Rattle.spdm_responder.proofs.decide_show.Tie as tie
 
-returns : tie.Need-returns
-unfolding showReply
-returns c = search picks depth 16
-
-returns-2 : tie.Need-returns-2
-unfolding showReply
-returns-2 c = search picks depth 16
-
-can-show-requires : tie.Need-can-show-requires
-can-show-requires c κs = search needs
-
-returns-3 : tie.Need-returns-3
-unfolding showReply
-returns-3 c = rw (← c .before .can-show .ensures) (search (picks, not-true, not-false) depth 16)
-
-returns-4 : tie.Need-returns-4
-unfolding showReply
-returns-4 c = rw (← c .before .before .before .can-show .ensures) (search (picks, not-true, not-false) depth 16)
-
-returns-5 : tie.Need-returns-5
-unfolding showReply
-returns-5 c = rw (← c .before .before .before .can-show .ensures) (search (picks, not-true, not-false) depth 16)
-
 pub decide-show-spec : {M : Type 1} → statement M
+unfolding showReply
 decide-show-spec =
-    tie.close (tie.spec returns returns-2 can-show-requires returns-3 returns-4 returns-5)
+    tie.close
+    (tie.spec
+    (λ c. search picks depth 16)
+    (λ c. search picks depth 16)
+    (λ c κs. search needs)
+    (λ c. let bounds : tie.After-own-bounds = search in rw (← bounds .own-bounds .ensures) (search (picks, not-true, not-false) depth 16))
+    (λ c. let bounds : tie.After-own-bounds = search in rw (← bounds .own-bounds .ensures) (search (picks, not-true, not-false) depth 16))
+    (λ c. let bounds : tie.After-own-bounds = search in rw (← bounds .own-bounds .ensures) (search (picks, not-true, not-false) depth 16)))

@@ -4,24 +4,21 @@ use borrow.Author.Needs.{needs}
 use Rattle.spdm_responder.proofs.result_of.Statement.{statement}
 use Rattle.spdm_responder.proofs.result_of.Tie as tie
 
-enum-known-r : tie.Need-enum-known-r
-enum-known-r c = search needs
-
 mul-result : tie.Need-mul-result
-mul-result c = let h = rw (c .before .r .given .1) at (c .before .before .before .pre) in omega (arith, h)
-
-enum-known-r-2 : tie.Need-enum-known-r-2
-enum-known-r-2 c = search needs
+mul-result c =
+    let at-r : tie.After-r = search in let start : tie.Start = search in
+    let h = rw (at-r .r .given .1) at (start .pre) in omega (arith, h)
 
 cast-result : tie.Need-cast-result
-cast-result c = let h = rw (c .before .r2 .given .1) at (c .before .before .before .pre) in omega (arith, h)
+cast-result c =
+    let at-r2 : tie.After-r2 = search in let start : tie.Start = search in
+    let h = rw (at-r2 .r2 .given .1) at (start .pre) in omega (arith, h)
 
 returns : tie.Need-returns
-returns c = rw (c .before .r .given .1)
-
-returns-2 : tie.Need-returns-2
-returns-2 c = search needs
+returns c =
+    let at-r : tie.After-r = search in
+    rw (at-r .r .given .1)
 
 pub result-of-spec : {M : Type 1} → statement M
 result-of-spec =
-    tie.close (tie.spec enum-known-r mul-result enum-known-r-2 cast-result returns returns-2)
+    tie.close (tie.spec (λ c. search needs) mul-result (λ c. search needs) cast-result returns (λ c. search needs))

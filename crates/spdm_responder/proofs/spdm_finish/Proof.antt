@@ -8,42 +8,27 @@ use borrow.Author.Needs.{needs}
 use Rattle.spdm_responder.proofs.spdm_finish.Statement.{statement}
 use Rattle.spdm_responder.proofs.spdm_finish.Tie as tie
 
-state-in-requires : tie.Need-state-in-requires
-state-in-requires c κs = search needs
-
-chip-ok-requires : tie.Need-chip-ok-requires
-chip-ok-requires c κs = search needs
-
-finish-requires : tie.Need-finish-requires
-finish-requires c κs = search needs
-
-put-state-requires : tie.Need-put-state-requires
-put-state-requires c κs = search needs
-
 result-of-requires : tie.Need-result-of-requires
 result-of-requires c κs =
-    rw (c .before .before .before .before .before .before .before .finish .ensures .reply) (signed-fits _ _ _ _ _ (reading _) (few-read _))
-
-same-length : tie.Need-same-length
-same-length c = search needs
-
-same-length-2 : tie.Need-same-length-2
-same-length-2 c = search needs
+    let finished : tie.After-finish = search in
+    rw (finished .finish .ensures .reply) (signed-fits _ _ _ _ (reading _) (few-read _))
 
 returns : tie.Need-returns
 returns c =
-    let R = rw (c .before .before .before .before .before .before .before .before .before .before .before .state-in .ensures, c .before .before .before .before .before .before .before .before .before .before .chip-ok .ensures) at (c .before .before .before .before .before .before .before .before .finish .ensures) in
-    record { result = c .result-of .ensures ∙ ap resultOf (R .reply); words = c .before .before .before .put-state .ensures ∙ ap (wordsAfter _) (R .state); answer = R .answer }
+    let result : tie.After-result-of = search in let put : tie.After-put-state = search in let finished : tie.After-finish = search in
+    let chip : tie.After-chip-ok = search in let held : tie.After-state-in = search in
+    let done = rw (held .state-in .ensures, chip .chip-ok .ensures) at (finished .finish .ensures) in
+    record { result = result .result-of .ensures ∙ ap resultOf (done .reply); words = put .put-state .ensures ∙ ap (wordsAfter _) (done .state); answer = done .answer }
 
 pub spdm-finish-spec : {M : Type 1} → statement M
 spdm-finish-spec =
     tie.close
     (tie.spec
-    state-in-requires
-    chip-ok-requires
-    finish-requires
-    put-state-requires
+    (λ c κs. search needs)
+    (λ c κs. search needs)
+    (λ c κs. search needs)
+    (λ c κs. search needs)
     result-of-requires
-    same-length
-    same-length-2
+    (λ c. search needs)
+    (λ c. search needs)
     returns)

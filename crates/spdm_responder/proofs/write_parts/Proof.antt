@@ -8,46 +8,23 @@ use borrow.Author.Needs.{needs}
 use Rattle.spdm_responder.proofs.write_parts.Statement.{statement}
 use Rattle.spdm_responder.proofs.write_parts.Tie as tie
 
-cast-write-four : tie.Need-cast-write-four
-cast-write-four c = search needs
-
-write-four-requires : tie.Need-write-four-requires
-write-four-requires c κs = search needs
-
-same-length : tie.Need-same-length
-same-length c = search needs
-
-returns : tie.Need-returns
-unfolding partsOf
-returns c = c .before .before .write-four .ensures ∙ ap (splice _ 0) (search picks depth 8)
-
-cast-write-four-2 : tie.Need-cast-write-four-2
-cast-write-four-2 c = search needs
-
-write-four-requires-2 : tie.Need-write-four-requires-2
-write-four-requires-2 c κs = search needs
-
-same-length-2 : tie.Need-same-length-2
-same-length-2 c = search needs
-
-returns-2 : tie.Need-returns-2
-unfolding partsOf
-returns-2 c = c .before .before .write-four2 .ensures ∙ ap (splice _ 0) (search picks depth 8)
-
-returns-3 : tie.Need-returns-3
+nothing : tie.Need-returns-3
 unfolding partsOf splice
-returns-3 c = ap (splice (c .before .before .before .before .before .args .out .now) 0) {x = []} {y = partsOf (c .before .before .before .before .before .args .s)} (search picks depth 8)
+nothing c = let start : tie.Start = search in ap (splice (start .args .out .now) 0) {x = []} {y = partsOf (start .args .s)} (search picks depth 8)
 
 pub write-parts-spec : {M : Type 1} → statement M
+unfolding partsOf
 write-parts-spec =
     tie.close
     (tie.spec
-    cast-write-four
-    write-four-requires
-    same-length
-    returns
-    cast-write-four-2
-    write-four-requires-2
-    same-length-2
-    returns-2
-    returns-3)
+    (λ c. search needs)
+    (λ c. search needs)
+    (λ c κs. search needs)
+    (λ c. search needs)
+    (λ c. let four : tie.After-write-four = search in four .write-four .ensures ∙ ap (splice _ 0) (search picks depth 8))
+    (λ c. search needs)
+    (λ c. search needs)
+    (λ c κs. search needs)
+    (λ c. search needs)
+    (λ c. let four : tie.After-write-four2 = search in four .write-four2 .ensures ∙ ap (splice _ 0) (search picks depth 8))
+    nothing)

@@ -6,21 +6,12 @@ use Rattle.wire.specs.Pick.{pick}
 use Rattle.state.proofs.refused.Statement.{statement}
 use Rattle.state.proofs.refused.Tie as tie
 
-returns : tie.Need-returns
-unfolding pick
-returns c = rw (ne-eqb _ _ (c .if1 .taken))
-
-returns-2 : tie.Need-returns-2
-unfolding pick
-returns-2 c = rw (lt-leb _ _ (c .if2 .taken), and-false)
-
-returns-3 : tie.Need-returns-3
-unfolding pick
-returns-3 c = rw (lt-leb _ _ (c .if3 .taken), and-false)
-
-returns-4 : tie.Need-returns-4
-unfolding pick
-returns-4 c = rw (eq-eqb _ _ (c .before .before .if1 .left), le-leb _ _ (c .before .if2 .left), le-leb _ _ (c .if3 .left))
-
 pub refused-spec : {M : Type 1} → statement M
-refused-spec = tie.close (tie.spec returns returns-2 returns-3 returns-4)
+unfolding pick
+refused-spec =
+    tie.close
+    (tie.spec
+    (λ c. rw (ne-eqb _ _ (c .if1 .taken)))
+    (λ c. rw (lt-leb _ _ (c .if2 .taken), and-false))
+    (λ c. rw (lt-leb _ _ (c .if3 .taken), and-false))
+    (λ c. let last : tie.Else3 = search in let late : tie.Else2 = search in let asked : tie.Else1 = search in rw (eq-eqb _ _ (asked .if1 .left), le-leb _ _ (late .if2 .left), le-leb _ _ (last .if3 .left))))

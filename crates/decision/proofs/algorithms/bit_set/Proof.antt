@@ -12,14 +12,10 @@ none-above v n h k =
     let p : 2 ^ 32 ≤ 2 ^ n = pow-le-pow-right (omega arith) k in
     div-eq-of-lt (omega arith)
 
-returns : tie.Need-returns
-returns c = rw (none-above (c .before .args .v) (c .before .args .n) (omega arith) (c .if1 .taken))
-
-shr-result : tie.Need-shr-result
-shr-result c = search needs
-
-returns-2 : tie.Need-returns-2
-returns-2 c = search needs
-
 pub bit-set-spec : {M : Type 1} → statement M
-bit-set-spec = tie.close (tie.spec returns shr-result returns-2)
+bit-set-spec =
+    tie.close
+    (tie.spec
+    (λ c. let start : tie.Start = search in rw (none-above (start .args .v) (start .args .n) (omega arith) (c .if1 .taken)))
+    (λ c. search needs)
+    (λ c. search needs))

@@ -1,39 +1,17 @@
--- The steps over the answer's size are the definition's. Assumes nothing.
+-- The exchange is made, and goes through the last steps; the portion is short. Assumes nothing.
+use mathlib.Core.Path.{_∙_}
+use Rattle.rules.specs.Certificate.{portionDecision}
 use borrow.Author.Needs.{needs}
-use Rattle.model.specs.Certificate.{portionDecision}
 use Rattle.decision.proofs.certificate.decide_portion.Statement.{statement}
 use Rattle.decision.proofs.certificate.decide_portion.Tie as tie
 
-add-size : tie.Need-add-size
-add-size c = search needs
-
-cast-size-steps : tie.Need-cast-size-steps
-cast-size-steps c = search needs
-
-add-size-steps : tie.Need-add-size-steps
-add-size-steps c = search needs
-
-add-size-steps-2 : tie.Need-add-size-steps-2
-add-size-steps-2 c = search needs
-
-sub-t10 : tie.Need-sub-t10
-sub-t10 c = search needs
-
-size-steps-requires : tie.Need-size-steps-requires
-size-steps-requires c κs = search needs
-
-returns : tie.Need-returns
-unfolding portionDecision
-returns c = c .size-steps .ensures
-
 pub decide-portion-spec : {M : Type 1} → statement M
+unfolding portionDecision
 decide-portion-spec =
     tie.close
     (tie.spec
-    add-size
-    cast-size-steps
-    add-size-steps
-    add-size-steps-2
-    sub-t10
-    size-steps-requires
-    returns)
+    (λ c. search needs)
+    (λ c κs. search needs)
+    (λ c. search needs)
+    (λ c κs. let made : tie.After-complete = search in rw (made .complete .ensures) (search needs))
+    (λ c. let made : tie.After-complete = search in c .size-steps .ensures ∙ rw (made .complete .ensures)))

@@ -1,109 +1,70 @@
 -- The tests are made in the definition's order; an index out of range is that of no measurement, as the definition's own test of it finds.
 -- Assumes nothing.
-use mathlib.Core.Path.{_≡_, refl, sym, ap, _∙_}
+use mathlib.Core.Path.{_≡_, refl, _∙_}
 use mathlib.Core.Bool.{Bool, true, false}
 use native.Mathlib.Omega.{arith}
 use lib.ListN.{length}
-use lib.Dec.{ltb}
 use borrow.Author.Tests.{eq-eqb, ne-eqb, le-ltb, lt-ltb}
 use Rattle.wire.specs.Pick.{pick}
-use Rattle.image.specs.Index.{measurementAt}
-use Rattle.model.specs.Facts.{factsAt}
-use Rattle.model.specs.Steps.{invalid}
-use Rattle.model.specs.Measurements.{operationOf, operationStep, operationFits, measurementsSized}
-use Rattle.model.specs.declared.Operation.the-variants as operation
-use Rattle.decision.proofs.IndexLaws.{index-in, index-out}
-use Rattle.decision.proofs.MeasurementsLaws.{one-step}
-use mathlib.Core.List.{List}
-use Prim.Native.Nat.{ℕ}
+use Rattle.image.specs.declared.MeasurementIndex.{MeasurementIndex}
+use Rattle.rules.specs.Facts.{Facts, factsAt}
+use Rattle.rules.specs.Steps.{invalid}
+use Rattle.rules.specs.Measurements.{operationOf, operationStep, operationFits}
+use Rattle.rules.specs.declared.Operation.the-variants as operation
+use Rattle.decision.proofs.IndexLaws.{Present, present, absent}
+use Rattle.decision.proofs.MeasurementsLaws.{sizedFor, one-step}
 use borrow.Author.Needs.{needs}
 use Rattle.decision.proofs.measurements.decide_operation.Statement.{statement}
 use Rattle.decision.proofs.measurements.decide_operation.Tie as tie
 
--- the function's start
-abbrev start : tie.After-measurement → tie.Start
-start c = c .before .before .before .before .before .before .before .before
+abbrev start : tie.Else2 → tie.Start
+start c = search
 
--- an index that passed the test is the one asked, and whether it is there is whether something was found
-index-is : (c : tie.After-measurement) → (c .before .before .checked .given .0 .0 .0 ≡ start c .args .x) × (factsAt (start c .args .image .now) (start c .args .ix) .present (start c .args .x) ≡ ltb 0 (length (c .measurement .result .now)))
-index-is c =
-    let a = start c .args in
-    let i = index-in (a .image .now) (a .ix) (a .x) _ (sym (c .before .before .before .before .measurement-index .ensures) ∙ c .before .before .checked .given .1) in
-    (i .0, i .1 ∙ ap (λ (l : List ℕ). ltb 0 (length l)) (sym (c .measurement .ensures ∙ ap (measurementAt (a .image .now) (a .ix)) (i .0))))
+abbrev facts : tie.Else2 → Facts
+facts c = factsAt (start c .args .image .now) (start c .args .ix)
 
-step-is : (c : tie.After-measurement) (b : Bool) → ltb 0 (length (c .measurement .result .now)) ≡ b
-    → operationStep (factsAt (start c .args .image .now) (start c .args .ix)) (start c .args .s) (start c .args .g) (operationOf (start c .args .x))
-    ≡ pick b (measurementsSized (factsAt (start c .args .image .now) (start c .args .ix)) (start c .args .s) (start c .args .g) (operation.One (c .before .before .checked .given .0 .0))) invalid
-step-is c b e =
-    let a = start c .args in
-    one-step (factsAt (a .image .now) (a .ix)) (a .s) (a .g) (a .x) (c .before .before .checked .given .0 .0) (index-is c .0) (ne-eqb _ _ (c .before .before .before .before .before .before .if1 .left)) (ne-eqb _ _ (c .before .before .before .before .before .if2 .left)) b
-    (index-is c .1 ∙ e)
+-- past 0 and 0xFF the step is that of one index, by whether it is a measurement's
+one : (c : tie.Else2) (n : MeasurementIndex) → n .0 ≡ start c .args .x → (b : Bool) → facts c .present (start c .args .x) ≡ b
+    → pick b (sizedFor (facts c) (start c .args .s) (start c .args .g) (operation.One n)) invalid
+    ≡ operationStep (facts c) (start c .args .s) (start c .args .g) (operationOf (start c .args .x))
+one c n i b e = let some : tie.Else1 = search in one-step (facts c) (start c .args .s) (start c .args .g) (start c .args .x) n i (some .if1 .left) (c .if2 .left) b e
 
-decide-size-requires : tie.Need-decide-size-requires
-decide-size-requires c κs = search needs
+abbrev other : tie.After-measurement → tie.Else2
+other c = search
 
-returns : tie.Need-returns
-unfolding operationStep operationFits pick
-returns c = rw (eq-eqb _ _ (c .before .if1 .taken)) (c .decide-size .ensures (c .before .before .before .args .image .now))
+abbrev index : tie.After-measurement → tie.After-checked
+index c = search
 
-decide-size-requires-2 : tie.Need-decide-size-requires-2
-decide-size-requires-2 c κs = search needs
-
-returns-2 : tie.Need-returns-2
-unfolding operationStep operationFits pick
-returns-2 c = rw (ne-eqb _ _ (c .before .before .if1 .left), eq-eqb _ _ (c .before .if2 .taken)) (c .decide-size2 .ensures (c .before .before .before .before .args .image .now))
-
-measurement-index-requires : tie.Need-measurement-index-requires
-measurement-index-requires c κs = search needs
-
-enum-known-checked : tie.Need-enum-known-checked
-enum-known-checked c = search needs
-
-enum-told : tie.Need-enum-told
-enum-told c = search needs
-
-invalid-request-requires : tie.Need-invalid-request-requires
-invalid-request-requires c κs = search needs
-
-returns-3 : tie.Need-returns-3
-unfolding pick
-returns-3 c =
-    let a = c .before .before .before .before .before .before .before .args in
-    let o = index-out (a .image .now) (a .ix) (a .x) (sym (c .before .before .before .measurement-index .ensures) ∙ c .before .enum-told .given .1) in
-    c .invalid-request .ensures ∙ sym (one-step (factsAt (a .image .now) (a .ix)) (a .s) (a .g) (a .x) (record { 0 = a .x }) refl (ne-eqb _ _ (c .before .before .before .before .before .if1 .left)) (ne-eqb _ _ (c .before .before .before .before .if2 .left)) false o)
-
-measurement-requires : tie.Need-measurement-requires
-measurement-requires c κs = search needs
-
-invalid-request-requires-2 : tie.Need-invalid-request-requires-2
-invalid-request-requires-2 c κs = search needs
-
-returns-4 : tie.Need-returns-4
-unfolding pick
-returns-4 c = c .invalid-request2 .ensures ∙ sym (step-is (c .before .before) false (le-ltb 0 (length (c .before .before .measurement .result .now)) (omega arith)))
-
-decide-size-requires-3 : tie.Need-decide-size-requires-3
-decide-size-requires-3 c κs = search needs
-
-returns-5 : tie.Need-returns-5
-unfolding pick
-returns-5 c = c .decide-size3 .ensures (c .before .before .before .before .before .before .before .before .before .before .args .image .now) ∙ sym (step-is (c .before .before) true (lt-ltb 0 (length (c .before .before .measurement .result .now)) (omega arith)))
+-- the index is the one asked, and a measurement's if something was found
+asked : (c : tie.After-measurement) → Present (start (other c) .args .image .now) (start (other c) .args .ix) (start (other c) .args .x) (index c .checked .given .0 .0) (c .measurement .result .now)
+asked c =
+    let tested : tie.After-measurement-index = search in
+    present _ _ _ _ _ _ (tested .measurement-index .ensures) (index c .checked .given .1) (c .measurement .ensures)
 
 pub decide-operation-spec : {M : Type 1} → statement M
+unfolding operationStep operationFits pick
 decide-operation-spec =
     tie.close
     (tie.spec
-    decide-size-requires
-    returns
-    decide-size-requires-2
-    returns-2
-    measurement-index-requires
-    enum-known-checked
-    enum-told
-    invalid-request-requires
-    returns-3
-    measurement-requires
-    invalid-request-requires-2
-    returns-4
-    decide-size-requires-3
-    returns-5)
+    (λ c κs. search needs)
+    (λ c. let none : tie.Then1 = search in rw (eq-eqb _ _ (none .if1 .taken)) (c .decide-size .ensures _))
+    (λ c κs. search needs)
+    (λ c.
+    let all : tie.Then2 = search in let some : tie.Else1 = search in
+    rw (ne-eqb _ _ (some .if1 .left), eq-eqb _ _ (all .if2 .taken)) (c .decide-size2 .ensures _))
+    (λ c κs. search needs)
+    (λ c. search needs)
+    (λ c. search needs)
+    (λ c κs. search needs)
+    (λ c.
+    let told : tie.After-enum-told = search in let tested : tie.After-measurement-index = search in let other : tie.Else2 = search in
+    c .invalid-request .ensures ∙ one other (record { 0 = start other .args .x }) refl false (absent _ _ _ _ (tested .measurement-index .ensures) (told .enum-told .given .1)))
+    (λ c κs. search needs)
+    (λ c κs. search needs)
+    (λ c.
+    let found : tie.After-measurement = search in
+    c .invalid-request2 .ensures ∙ one (other found) _ (asked found .index) false (asked found .here ∙ le-ltb 0 (length (found .measurement .result .now)) (omega arith)))
+    (λ c κs. search needs)
+    (λ c.
+    let found : tie.After-measurement = search in
+    c .decide-size3 .ensures _ ∙ one (other found) _ (asked found .index) true (asked found .here ∙ lt-ltb 0 (length (found .measurement .result .now)) (omega arith))))

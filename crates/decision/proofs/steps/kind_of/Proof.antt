@@ -1,83 +1,22 @@
--- Each key is a served code; in the ranges between them the code is none of the seven. Assumes nothing.
-use mathlib.Core.Path.{_≡_}
-use borrow.Author.Tests.{ne-eqb}
-use Rattle.wire.specs.Pick.{pick}
-use Rattle.model.specs.Steps.{kindOf}
-use Rattle.model.specs.declared.Kind.the-variants as kind
+-- Each key is a served code; every other code is none of the seven. Assumes nothing.
+use Rattle.wire.proofs.Picks.{picks}
+use Rattle.rules.specs.Steps.{kindOf}
 use Rattle.decision.proofs.steps.kind_of.Statement.{statement}
 use Rattle.decision.proofs.steps.kind_of.Tie as tie
 
--- past the keys the code is none of the seven served
-rest : (c : tie.At-match-rest) → kind.Unsupported ≡ kindOf (c .before .args .code)
-unfolding kindOf pick
-rest c =
-    let r = c .match .rest in
-    simp (
-      ne-eqb _ _ (r .0 .1),
-      ne-eqb _ _ (r .0 .0 .1),
-      ne-eqb _ _ (r .0 .0 .0 .1),
-      ne-eqb _ _ (r .0 .0 .0 .0 .1),
-      ne-eqb _ _ (r .0 .0 .0 .0 .0 .1),
-      ne-eqb _ _ (r .0 .0 .0 .0 .0 .0 .1),
-      ne-eqb _ _ (r .0 .0 .0 .0 .0 .0 .0 .1),
-    )
-
-returns : tie.Need-returns
-unfolding kindOf pick
-returns c = rw (c .match .keys1)
-
-returns-2 : tie.Need-returns-2
-unfolding kindOf pick
-returns-2 c = rw (c .match .keys2)
-
-returns-3 : tie.Need-returns-3
-unfolding kindOf pick
-returns-3 c = rw (c .match .keys3)
-
-returns-4 : tie.Need-returns-4
-unfolding kindOf pick
-returns-4 c = rw (c .match .keys4)
-
-returns-5 : tie.Need-returns-5
-unfolding kindOf pick
-returns-5 c = rw (c .match .keys5)
-
-returns-6 : tie.Need-returns-6
-unfolding kindOf pick
-returns-6 c = rw (c .match .keys6)
-
-returns-7 : tie.Need-returns-7
-unfolding kindOf pick
-returns-7 c = rw (c .match .keys7)
-
-returns-8 : tie.Need-returns-8
-unfolding kindOf pick
-returns-8 c = rw (c .match .keys8)
-
-returns-9 : tie.Need-returns-9
-unfolding kindOf pick
-returns-9 c = rest (c .before)
-
-returns-10 : tie.Need-returns-10
-unfolding kindOf pick
-returns-10 c = rest (c .before .before)
-
-returns-11 : tie.Need-returns-11
-unfolding kindOf pick
-returns-11 c = rest (c .before .before)
-
 pub kind-of-spec : {M : Type 1} → statement M
+unfolding kindOf
 kind-of-spec =
     tie.close
     (tie.spec
-    returns
-    returns-2
-    returns-3
-    returns-4
-    returns-5
-    returns-6
-    returns-7
-    returns-8
-    returns-9
-    returns-10
-    returns-11)
+    (λ c. search picks depth 24)
+    (λ c. search picks depth 24)
+    (λ c. search picks depth 24)
+    (λ c. search picks depth 24)
+    (λ c. search picks depth 24)
+    (λ c. search picks depth 24)
+    (λ c. search picks depth 24)
+    (λ c. search picks depth 24)
+    (λ c. search picks depth 24)
+    (λ c. search picks depth 24)
+    (λ c. search picks depth 24))

@@ -1,27 +1,40 @@
--- The array is the message, byte for byte: the index has the contents' own exponent and count of measurements. Assumes nothing.
-use Rattle.model.specs.Capabilities.{capabilitiesBytes}
-use mathlib.Core.Path.{_∙_}
+-- Three writes, one behind the other; the index has the contents' own exponent and count of measurements. Assumes nothing.
+use mathlib.Core.Path.{refl, _∙_}
+use mathlib.Core.List.{List, [], _∷_, _++_}
+use Prim.Native.Nat.{ℕ}
+use lib.ListN.{length}
+use Rattle.wire.specs.Bytes.{leBytes}
+use Rattle.rules.specs.Limits.{capabilitiesCode, messageLimit}
+use Rattle.rules.specs.Header.{versionOf}
+use Rattle.rules.specs.Capabilities.{flagsOf, capabilitiesBytes}
+use Rattle.responder.proofs.RunLaws.{splice-on}
 use borrow.Author.Needs.{needs}
 use Rattle.responder.proofs.capabilities.write_capabilities.Statement.{statement}
 use Rattle.responder.proofs.capabilities.write_capabilities.Tie as tie
 
-flags-requires : tie.Need-flags-requires
-flags-requires c κs = search needs
-
-slice-aggregate-copy-into : tie.Need-slice-aggregate-copy-into
-slice-aggregate-copy-into c = search needs
-
-copy-into-requires : tie.Need-copy-into-requires
-copy-into-requires c κs = search needs
-
-same-length : tie.Need-same-length
-same-length c = search needs
-
 returns : tie.Need-returns
 unfolding capabilitiesBytes
-returns c k e = c .before .before .copy-into .ensures ∙ rw (c .before .before .before .before .before .flags .ensures, e)
+returns c =
+    let second : tie.After-put-le2 = search in let first : tie.After-put-le = search in let head : tie.After-copy-into = search in
+    let version : tie.After-version-of = search in let bits : tie.After-flags = search in let start : tie.Start = search in
+    λ k e.
+    let a = start .args in
+    let h : List ℕ =
+    versionOf (a .n) ∷ capabilitiesCode ∷ 0 ∷ 0 ∷ 0 ∷ k .identity .exponent ∷ 0 ∷ 0 ∷ flagsOf (length (k .measurements)) ∷ 0 ∷ 0 ∷ 0 ∷ [] in
+    let w : List ℕ = leBytes 4 messageLimit in
+    second .put-le2 .ensures
+    ∙ rw (first .put-le .ensures, head .copy-into .ensures, version .version-of .ensures, bits .flags .ensures, e, splice-on (a .answer .now) h w 12 refl)
+    (splice-on (a .answer .now) (h ++ w) w 16 refl)
 
 pub write-capabilities-spec : {M : Type 1} → statement M
 write-capabilities-spec =
     tie.close
-    (tie.spec flags-requires slice-aggregate-copy-into copy-into-requires same-length returns)
+    (tie.spec
+    (λ c κs. search needs)
+    (λ c κs. search needs)
+    (λ c. search needs)
+    (λ c κs. search needs)
+    (λ c κs. search needs)
+    (λ c κs. search needs)
+    (λ c. search needs)
+    returns)

@@ -1,69 +1,58 @@
--- Two copies, the portion where the head ended; what the lookup gives of the chain is what the contents hold. Assumes nothing.
-use mathlib.Core.Path.{_≡_, _∙_}
-use mathlib.Core.List.{List, [], _∷_}
-use Prim.Native.Nat.{ℕ, _/_, _%_}
-use borrow.Author.Needs.{needs}
-use Rattle.wire.specs.Bytes.{Bytes, part}
-use Rattle.wire.proofs.Laws.{splice-append}
+-- Four writes, the portion where the head ended; what the lookup gives of the chain is what the contents hold. Assumes nothing.
+use mathlib.Core.Path.{_≡_, refl, _∙_}
+use mathlib.Core.List.{List, [], _∷_, _++_}
+use Prim.Native.Nat.{ℕ}
+use Rattle.wire.specs.Bytes.{Bytes, leBytes, part}
 use Rattle.image.specs.Held.{slotChain}
-use Rattle.model.specs.Certificate.{certificateBytes}
 use Rattle.image.proofs.Given.{held}
+use Rattle.rules.specs.Limits.{certificateCode}
+use Rattle.rules.specs.Header.{versionOf}
+use Rattle.rules.specs.Certificate.{certificateBytes}
+use Rattle.responder.proofs.RunLaws.{splice-on}
+use borrow.Author.Needs.{needs}
 use Rattle.responder.proofs.certificate.write_certificate.Statement.{statement}
 use Rattle.responder.proofs.certificate.write_certificate.Tie as tie
 
-slot-byte-requires : tie.Need-slot-byte-requires
-slot-byte-requires c κs = search needs
-
-cast-t11 : tie.Need-cast-t11
-cast-t11 c = search needs
-
-cast-t14 : tie.Need-cast-t14
-cast-t14 c = search needs
-
-cast-t16 : tie.Need-cast-t16
-cast-t16 c = search needs
-
-cast-t19 : tie.Need-cast-t19
-cast-t19 c = search needs
-
-slice-aggregate-copy-into : tie.Need-slice-aggregate-copy-into
-slice-aggregate-copy-into c = search needs
-
-copy-into-requires : tie.Need-copy-into-requires
-copy-into-requires c κs = search needs
-
-chain-part-requires : tie.Need-chain-part-requires
-chain-part-requires c κs = search needs
-
-copy-into-requires-2 : tie.Need-copy-into-requires-2
-copy-into-requires-2 c κs = search needs
-
-same-length : tie.Need-same-length
-same-length c = search needs
-
 returns : tie.Need-returns
 unfolding certificateBytes
-returns c = λ k r.
-    let a = c .before .before .before .before .before .before .before .before .before .before .before .before .before .args in
-    let y : Bytes (a .image .now) = λ i. c .before .before .before .before .before .before .before .before .before .before .before .shared-slice-known .given i .fits in
-    let h : List ℕ = 0x12 ∷ 0x02 ∷ a .slot .0 ∷ 0 ∷ a .portion % 256 ∷ a .portion / 256 % 256 ∷ a .remainder % 256 ∷ a .remainder / 256 % 256 ∷ [] in
-    let p : c .before .before .before .chain-part .result .now ≡ part (slotChain k (a .slot .0)) (a .offset) (a .portion) =
-    c .before .before .before .chain-part .ensures ∙ rw (r .indexed) (held y r .portions (a .slot .0) (a .offset) (a .portion)) in
-    c .before .before .copy-into2 .ensures
-    ∙ rw (p, c .before .before .before .before .before .before .before .copy-into .ensures, c .before .before .before .before .before .before .before .before .before .before .slot-byte .ensures) (splice-append (a .answer .now) 0 h (part (slotChain k (a .slot .0)) (a .offset) (a .portion)))
+returns c =
+    let fourth : tie.After-copy-into2 = search in let chain : tie.After-chain-part = search in let third : tie.After-put-le2 = search in
+    let second : tie.After-put-le = search in let head : tie.After-copy-into = search in let slot : tie.After-slot-byte = search in
+    let version : tie.After-version-of = search in let known : tie.After-shared-slice-known = search in let start : tie.Start = search in
+    λ k r.
+    let a = start .args in
+    let y : Bytes (a .image .now) = λ i. known .shared-slice-known .given i .fits in
+    let h : List ℕ = versionOf (a .n) ∷ certificateCode ∷ a .slot .0 ∷ 0 ∷ [] in
+    let portion : List ℕ = leBytes 2 (a .portion) in
+    let remainder : List ℕ = leBytes 2 (a .remainder) in
+    let bytes : List ℕ = part (slotChain k (a .slot .0)) (a .offset) (a .portion) in
+    let p : chain .chain-part .result .now ≡ bytes =
+    chain .chain-part .ensures ∙ rw (r .indexed) (held y r .portions (a .slot .0) (a .offset) (a .portion)) in
+    fourth .copy-into2 .ensures
+    ∙ rw (
+      p,
+      third .put-le2 .ensures,
+      second .put-le .ensures,
+      head .copy-into .ensures,
+      slot .slot-byte .ensures,
+      version .version-of .ensures,
+      splice-on (a .answer .now) h portion 4 refl,
+      splice-on (a .answer .now) (h ++ portion) remainder 6 refl,
+    )
+    (splice-on (a .answer .now) ((h ++ portion) ++ remainder) bytes 8 refl)
 
 pub write-certificate-spec : {M : Type 1} → statement M
 write-certificate-spec =
     tie.close
     (tie.spec
-    slot-byte-requires
-    cast-t11
-    cast-t14
-    cast-t16
-    cast-t19
-    slice-aggregate-copy-into
-    copy-into-requires
-    chain-part-requires
-    copy-into-requires-2
-    same-length
+    (λ c κs. search needs)
+    (λ c κs. search needs)
+    (λ c. search needs)
+    (λ c κs. search needs)
+    (λ c κs. search needs)
+    (λ c. search needs)
+    (λ c κs. search needs)
+    (λ c κs. search needs)
+    (λ c κs. search needs)
+    (λ c. search needs)
     returns)

@@ -12,8 +12,9 @@ use Rattle.image.specs.Held.{slotMask}
 use Rattle.image.specs.Index.{digestAt}
 use Rattle.image.specs.Limits.{slotCount}
 use Rattle.image.specs.Sizes.{digestMost}
-use Rattle.model.specs.Digests.{joinedDigests, digestsBytes}
-use Rattle.model.specs.Limits.{headerLength}
+use Rattle.rules.specs.Digests.{joinedDigests, digestsBytes}
+use Rattle.rules.specs.Limits.{headerLength, digestsCode}
+use Rattle.rules.specs.Header.{versionOf}
 use Rattle.image.proofs.Given.{valid, held}
 use Rattle.responder.proofs.DigestLaws.{joinedFrom, one-more, no-more, joined-all}
 use Rattle.image.proofs.SlotLaws.{digest-short}
@@ -28,55 +29,45 @@ Inv-loop answer₀ image ix mask at₀ slot₀ answer at slot =
 abbrev μ-loop : tie.MeasureT-loop
 μ-loop answer₀ image ix mask at₀ slot₀ answer at slot = slotCount - slot
 
-slot-mask-requires : tie.Need-slot-mask-requires Inv-loop μ-loop
-slot-mask-requires c κs = search needs
-
-slice-aggregate-copy-into : tie.Need-slice-aggregate-copy-into Inv-loop μ-loop
-slice-aggregate-copy-into c = search needs
-
-copy-into-requires : tie.Need-copy-into-requires Inv-loop μ-loop
-copy-into-requires c κs = search needs
-
 loop-holds : tie.Need-loop-holds Inv-loop μ-loop
 loop-holds c = (omega arith, (omega arith, refl))
 
-write-digest-requires : tie.Need-write-digest-requires Inv-loop μ-loop
-write-digest-requires c κs = omega arith
-
-add-slot : tie.Need-add-slot Inv-loop μ-loop
-add-slot c = omega arith
-
-loop-less : tie.Need-loop-less Inv-loop μ-loop
-loop-less c = omega arith
-
 loop-again : tie.Need-loop-again Inv-loop μ-loop
 loop-again c =
-    let a = c .before .before .before .before .before .before .before .before .before .before .before .before .before .before .args in
-    let l = c .before .before .before .before .before .loop in
-    let w = c .before .before .write-digest .ensures in
+    let at-write-digest : tie.After-write-digest Inv-loop μ-loop = search in let at-At-loop : tie.At-loop Inv-loop μ-loop = search in
+    let start : tie.Start Inv-loop μ-loop = search in
+    let a = start .args in
+    let l = at-At-loop .loop in
+    let w = at-write-digest .write-digest .ensures in
     let n = digest-short (a .image .now) (a .ix) (l .slot) in
     (omega arith, (omega (arith, n, w .1), rw (w .0, w .1) (one-more (digestAt (a .image .now) (a .ix)) (l .answer) (l .at) (l .slot) (omega arith) ∙ l .inv .1 .1)))
 
 same-length : tie.Need-same-length Inv-loop μ-loop
 same-length c =
-    let i = simp splice-length at (ap length (c .before .loop .inv .1 .1)) in
-    let e = simp splice-length at (ap length (c .before .before .before .before .copy-into .ensures)) in
+    let at-At-loop : tie.At-loop Inv-loop μ-loop = search in let at-copy-into : tie.After-copy-into Inv-loop μ-loop = search in
+    let i = simp splice-length at (ap length (at-At-loop .loop .inv .1 .1)) in
+    let e = simp splice-length at (ap length (at-copy-into .copy-into .ensures)) in
     i ∙ e
 
 returns : tie.Need-returns Inv-loop μ-loop
 unfolding digestsBytes
-returns c = λ k r.
-    let a = c .before .before .before .before .before .before .before .before .before .before .args in
-    let l = c .before .loop in
-    let y : Bytes (a .image .now) = λ i. c .before .before .before .before .before .before .before .before .shared-slice-known .given i .fits in
+returns c =
+    let at-At-loop : tie.At-loop Inv-loop μ-loop = search in let at-copy-into : tie.After-copy-into Inv-loop μ-loop = search in
+    let version : tie.After-version-of Inv-loop μ-loop = search in
+    let at-slot-mask : tie.After-slot-mask Inv-loop μ-loop = search in let at-shared-slice-known : tie.After-shared-slice-known Inv-loop μ-loop = search in
+    let start : tie.Start Inv-loop μ-loop = search in
+    λ k r.
+    let a = start .args in
+    let l = at-At-loop .loop in
+    let y : Bytes (a .image .now) = λ i. at-shared-slice-known .shared-slice-known .given i .fits in
     let f : ℕ → List ℕ = digestAt (a .image .now) (a .ix) in
     let v = valid y r in
-    let h : List ℕ = 0x12 ∷ 0x01 ∷ 0 ∷ slotMask k ∷ [] in
-    let m : c .before .before .before .before .before .before .before .slot-mask .result ≡ slotMask k = c .before .before .before .before .before .before .before .slot-mask .ensures ∙ rw (r .indexed) (held y r .mask) in
+    let h : List ℕ = versionOf (a .n) ∷ digestsCode ∷ 0 ∷ slotMask k ∷ [] in
+    let m : at-slot-mask .slot-mask .result ≡ slotMask k = at-slot-mask .slot-mask .ensures ∙ rw (r .indexed) (held y r .mask) in
     let j : joinedFrom f 0 slotCount ≡ joinedDigests (k .chains) =
     joined-all _ f (k .chains) (v .chains) (v .slots) (λ n. rw (r .indexed) (held y r .digests n)) in
     sym (no-more f (l .answer) (l .at) (l .slot) (omega arith)) ∙ l .inv .1 .1
-    ∙ rw (j, c .before .before .before .before .copy-into .ensures, m) (splice-append (a .answer .now) 0 h (joinedDigests (k .chains)))
+    ∙ rw (j, at-copy-into .copy-into .ensures, version .version-of .ensures, m) (splice-append (a .answer .now) 0 h (joinedDigests (k .chains)))
 
 pub write-digests-spec : {M : Type 1} → statement M
 write-digests-spec =
@@ -84,13 +75,14 @@ write-digests-spec =
     (tie.spec
     Inv-loop
     μ-loop
-    slot-mask-requires
-    slice-aggregate-copy-into
-    copy-into-requires
+    (λ c κs. search needs)
+    (λ c κs. search needs)
+    (λ c. search needs)
+    (λ c κs. search needs)
     loop-holds
-    write-digest-requires
-    add-slot
-    loop-less
+    (λ c κs. omega arith)
+    (λ c. omega arith)
+    (λ c. omega arith)
     loop-again
     same-length
     returns)

@@ -1,9 +1,10 @@
--- The first len of 514 zeros are copied, and they are len zeros. Assumes nothing.
+-- The first len of 512 zeros are copied, and they are len zeros. Assumes nothing.
 use mathlib.Core.Path.{_≡_, refl, ap, _∙_}
 use Prim.Native.Nat.{ℕ, zero, suc, _≤_}
 use native.Mathlib.Omega.{arith}
 use lib.ListN.{take, replicate}
 use mathlib.Core.List.{List, _∷_}
+use Rattle.wire.specs.Bytes.{splice}
 use borrow.Author.Needs.{needs}
 use Rattle.responder.proofs.zeros.write_zeros.Statement.{statement}
 use Rattle.responder.proofs.zeros.write_zeros.Tie as tie
@@ -13,22 +14,19 @@ take-zeros zero m h = refl
 take-zeros (suc n) zero h = absurd (omega arith)
 take-zeros (suc n) (suc m) h = ap (λ (l : List ℕ). 0 ∷ l) (take-zeros n m (omega arith))
 
-slice-aggregate-part-of : tie.Need-slice-aggregate-part-of
-slice-aggregate-part-of c = search needs
-
-part-of-requires : tie.Need-part-of-requires
-part-of-requires c κs = search needs
-
-copy-into-requires : tie.Need-copy-into-requires
-copy-into-requires c κs = search needs
-
-same-length : tie.Need-same-length
-same-length c = search needs
-
-returns : tie.Need-returns
-returns c = c .before .before .copy-into .ensures ∙ rw (c .before .before .before .part-of .ensures, take-zeros (c .before .before .before .before .before .before .before .args .len) 514 (omega arith))
+returns : tie.Need-returns-2
+returns c =
+    let copied : tie.After-copy-into = search in let front : tie.After-part-of = search in let start : tie.Start = search in
+    copied .copy-into .ensures ∙ rw (front .part-of .ensures, take-zeros (start .args .len) 512 (omega arith))
 
 pub write-zeros-spec : {M : Type 1} → statement M
+unfolding splice
 write-zeros-spec =
     tie.close
-    (tie.spec slice-aggregate-part-of part-of-requires copy-into-requires same-length returns)
+    (tie.spec
+    (λ c. rw (c .if1 .taken))
+    (λ c. search needs)
+    (λ c κs. search needs)
+    (λ c κs. search needs)
+    (λ c. search needs)
+    returns)

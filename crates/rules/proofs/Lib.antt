@@ -1,0 +1,9 @@
+pub mod Tests
+pub mod Passed
+pub mod Told
+pub mod AnswerLengths
+pub mod Ready
+pub mod SameFacts
+pub mod Hashed
+pub mod Refusals
+pub mod Flows

@@ -1,0 +1,12 @@
+pub mod Parts
+pub mod Alike
+pub mod Requests
+pub mod Finishings
+pub mod Passes
+pub mod GetVersion
+pub mod Restart
+pub mod Holdings
+pub mod Portions
+pub mod Serving
+pub mod Served
+pub mod Reading

@@ -1,0 +1,55 @@
+// The state as the vectors have it: a word for each of its numbers.
+use crate::TEXT;
+use crate::fields::number;
+use crate::text::put_word;
+use rules::Awaited;
+use rules::Negotiated;
+use rules::State;
+use rules::Used;
+
+// S words: the state.
+pub fn state_of(line: &[u8]) -> State {
+    State {
+        negotiated: Negotiated {
+            phase: number(line, 1),
+            peer: number(line, 2),
+            selection: number(line, 3),
+        },
+        used: Used {
+            a: number(line, 4),
+            b: number(line, 5),
+            m: number(line, 6),
+        },
+        awaited: Awaited {
+            whose: number(line, 7),
+            length: number(line, 8),
+        },
+    }
+}
+
+pub fn put_state(text: &mut [u8; TEXT], at: usize, s: State) -> usize {
+    let n = s.negotiated;
+    let u = s.used;
+    let w = s.awaited;
+    let phase = put_word(text, at, n.phase);
+    let peer = put_word(text, phase, n.peer);
+    let selection = put_word(text, peer, n.selection);
+    let a = put_word(text, selection, u.a);
+    let b = put_word(text, a, u.b);
+    let m = put_word(text, b, u.m);
+    let whose = put_word(text, m, w.whose);
+    put_word(text, whose, w.length)
+}
+
+// Whether a signature is awaited since a call.
+pub fn awaits_now(before: State, after: State) -> bool {
+    let old = before.awaited;
+    let new = after.awaited;
+    old.whose < new.whose
+}
+
+// The length of the awaited answer.
+pub fn awaited_length(s: State) -> usize {
+    let w = s.awaited;
+    w.length as usize
+}
