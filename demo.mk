@@ -1,8 +1,10 @@
 # The C demonstration and the fuzz driver. The repository's Makefile includes this file.
 #   make demo         prove and build the library if needed, build the demonstration and run it
 #   make demo-image   the demonstration's box as the bench's lines, made into its image by make_image
-#   make fuzz         the demonstration under the sanitizers, then FUZZ_SECONDS of libFuzzer; without clang's runtime,
-#                     FUZZ_INPUTS inputs of the driver
+#   make host-example a host that signs, built, questioned and its signature verified
+#   make bench-tools  bench/make-image and bench/image-info on good and bad lines
+#   make fuzz         the demonstration under the sanitizers, then FUZZ_SECONDS of libFuzzer, which sees the library's
+#                     own code; without clang's runtime, FUZZ_INPUTS inputs of the driver
 #   make fuzz-short   FUZZ_SHORT_INPUTS inputs, always the same ones, in a few seconds
 
 RESPONDER_LIB ?= target/staticlib/libspdm_responder.a
@@ -16,20 +18,29 @@ FUZZ_SEED ?= 1
 
 HOST_WARNINGS := -Wall -Wextra -Werror
 HOST_FLAGS := -std=c11 -O2 $(HOST_WARNINGS) -I$(RESPONDER_INCLUDE)
-FUZZ_FLAGS := -std=c11 -O1 -g $(HOST_WARNINGS) -I$(RESPONDER_INCLUDE)
+FUZZ_FLAGS := -std=c11 -O1 -g $(HOST_WARNINGS) -I$(RESPONDER_INCLUDE) -Irust/plain_c
 HOST_SOURCES := $(wildcard host/*.c)
 HOST_OBJECTS := $(HOST_SOURCES:host/%.c=$(HOST_OUT)/%.o)
 FUZZ_SOURCES := $(wildcard fuzz/*.c)
 OPENSSL_PACKAGE := apt-get install -y libssl-dev
 
-.PHONY: demo demo-image demo-sanitized fuzz fuzz-short fuzz-libfuzzer fuzz-driver openssl-headers
+.PHONY: demo demo-image demo-sanitized host-example bench-tools fuzz fuzz-short fuzz-libfuzzer fuzz-driver openssl-headers
 
 SOURCES := crates.txt $(shell find crates -name '*.rt' -o -name '*.antt' 2>/dev/null)
 
-# rt proves only what has changed; the archive's date then stands for all sources.
-target/staticlib/libspdm_responder.a: $(SOURCES)
-	rt staticlib spdm_responder
-	touch $@
+# $(call told,COMMAND,LOG): of rt's output a line a crate is shown; the prover's notes are in the log.
+told = @mkdir -p target; { $(1) 2>&1; echo $$? >$(2).status; } | tee $(2) | grep --line-buffered '^rt: '; \
+    test "$$(cat $(2).status)" = 0 || { tail -30 $(2); exit 1; }
+
+# One run of rt gives both: the archive, for x86-64, and the module that it was compiled from, for libFuzzer and for other
+# processors. rt proves only what has changed; their dates then stand for all sources.
+RESPONDER_MODULE := target/module/spdm_responder.bc
+
+target/staticlib/libspdm_responder.a $(RESPONDER_MODULE) &: $(SOURCES) targets/module
+	@echo "proving the library, a few minutes the first time (notes: target/demo-proof.log)"
+	@mkdir -p target/module
+	$(call told,targets/module $(RESPONDER_MODULE),target/demo-proof.log)
+	@touch target/staticlib/libspdm_responder.a $(RESPONDER_MODULE)
 
 $(HOST_OUT):
 	mkdir -p $@
@@ -50,12 +61,26 @@ $(HOST_OUT)/demo: $(HOST_OBJECTS) $(RESPONDER_LIB)
 demo: $(HOST_OUT)/demo
 	$(HOST_OUT)/demo
 
-# The bench's program, dated as the archive is, and behind it: one rt runs at a time.
+# The bench's programs, dated as the archive is, and behind it: one rt runs at a time.
 MAKE_IMAGE := target/bin/make_image
+IMAGE_INFO := target/bin/image_info
 
 $(MAKE_IMAGE): $(SOURCES) | $(RESPONDER_LIB)
-	rt check make_image
-	touch -c $@
+	$(call told,rt check make_image,target/make-image-proof.log)
+	@touch -c $@
+
+$(IMAGE_INFO): $(SOURCES) | $(RESPONDER_LIB) $(MAKE_IMAGE)
+	$(call told,rt check image_info,target/image-info-proof.log)
+	@touch -c $@
+
+bench-tools: $(MAKE_IMAGE) $(IMAGE_INFO)
+	bench/test
+
+$(HOST_OUT)/signing_host: host/examples/signing_host.c $(RESPONDER_INCLUDE)/spdm_responder.h $(RESPONDER_LIB) | $(HOST_OUT) openssl-headers
+	$(CC) $(HOST_FLAGS) $< $(RESPONDER_LIB) -lcrypto -o $@
+
+host-example: $(HOST_OUT)/signing_host $(MAKE_IMAGE)
+	host/examples/test $<
 
 demo-image: $(HOST_OUT)/demo $(MAKE_IMAGE)
 	$(HOST_OUT)/demo --export $(HOST_OUT)/box.txt $(HOST_OUT)/box.img
@@ -69,15 +94,29 @@ $(HOST_OUT)/demo-sanitized: $(HOST_SOURCES) $(wildcard host/*.h) $(RESPONDER_LIB
 demo-sanitized: $(HOST_OUT)/demo-sanitized
 	$< >$(HOST_OUT)/demo.out || { tail -5 $(HOST_OUT)/demo.out; exit 1; }
 	@tail -1 $(HOST_OUT)/demo.out
+	$< --help >$(HOST_OUT)/demo.out
+	$< --nonsense 2>$(HOST_OUT)/demo.out; test $$? = 2
 
-FUZZ_NEEDS := $(FUZZ_SOURCES) $(wildcard fuzz/*.h) $(RESPONDER_INCLUDE)/spdm_responder.h $(RESPONDER_LIB)
+# The plain responder, which the driver compares with.
+PLAIN_LIB := rust/target/fuzz/libspdm_plain.a
 
-$(HOST_OUT)/fuzz-driver: $(FUZZ_NEEDS) | $(HOST_OUT)
-	$(CC) $(FUZZ_FLAGS) $(SANITIZE) $(FUZZ_SOURCES) $(RESPONDER_LIB) -o $@
+$(PLAIN_LIB): $(wildcard rust/plain_c/*) rust/src/plain.rs rust/Cargo.toml
+	$(CARGO) build -q --offline --profile fuzz --manifest-path rust/plain_c/Cargo.toml
+	touch $@
 
-$(HOST_OUT)/fuzz-libfuzzer: $(FUZZ_NEEDS) | $(HOST_OUT)
+FUZZ_NEEDS := $(FUZZ_SOURCES) $(wildcard fuzz/*.h) $(RESPONDER_INCLUDE)/spdm_responder.h $(PLAIN_LIB)
+
+$(HOST_OUT)/fuzz-driver: $(FUZZ_NEEDS) $(RESPONDER_LIB) | $(HOST_OUT)
+	$(CC) $(FUZZ_FLAGS) $(SANITIZE) $(FUZZ_SOURCES) $(RESPONDER_LIB) $(PLAIN_LIB) -o $@
+
+# For libFuzzer the library is its proved module, instrumented, in place of the archive.
+$(HOST_OUT)/spdm_responder.o: $(RESPONDER_MODULE) | $(HOST_OUT)
+	targets/module --run clang -O1 -fPIC -fsanitize=fuzzer-no-link,address -mllvm -force-attribute=sanitize_address \
+	    -c -x ir $< -o $@
+
+$(HOST_OUT)/fuzz-libfuzzer: $(FUZZ_NEEDS) $(HOST_OUT)/spdm_responder.o
 	$(FUZZ_CLANG) $(FUZZ_FLAGS) -DWITH_LIBFUZZER -fsanitize=fuzzer,address,undefined -fno-sanitize-recover=all \
-	    $(FUZZ_SOURCES) $(RESPONDER_LIB) -o $@
+	    $(FUZZ_SOURCES) $(HOST_OUT)/spdm_responder.o $(PLAIN_LIB) -o $@
 
 fuzz-short: $(HOST_OUT)/fuzz-driver
 	$< $(FUZZ_SHORT_INPUTS) $(FUZZ_SEED)

@@ -20,6 +20,7 @@ static void open_pens(struct pens *pens)
     pen_open(&pens->fixed_transcript, TRANSCRIPT_ROOM / PEN_PAGE, true);
     pen_open(&pens->prefix, 1, false);
     pen_open(&pens->parts, 1, false);
+    pen_open(&pens->algorithms, 1, false);
 }
 
 struct driver *the_driver(void)
@@ -140,6 +141,20 @@ static uint32_t library_read_image(struct driver *driver, unsigned places)
     return result;
 }
 
+static uint32_t library_image_algorithms(struct driver *driver, unsigned places)
+{
+    struct world *world = &driver->world;
+    struct pens *pens = &driver->pens;
+    const uint8_t *image = pen_lend(&pens->image, place_of(places, 0), world->image, world->image_length);
+    uint32_t *algorithms = pen_lend(&pens->algorithms, place_of(places, 1), world->algorithms,
+        4 * world->algorithms_length);
+    const uint32_t result = spdm_image_algorithms(image, world->image_length, algorithms, world->algorithms_length);
+    bool good = pen_take(&pens->image, world->image);
+    good &= pen_take(&pens->algorithms, world->algorithms);
+    demand(driver, good, "a byte beside a buffer changed (spdm_image_algorithms)");
+    return result;
+}
+
 // ---- What must hold after a call
 
 // The table's numbers, and the calls that give them.
@@ -232,6 +247,8 @@ static void demand_plain(const struct driver *driver, uint32_t result, uint32_t 
         "the transcript is not the plain responder's");
     demand(driver, memcmp(now->prefix, plain->prefix, SMALL_ROOM) == 0, "the prefix is not the plain responder's");
     demand(driver, memcmp(now->parts, plain->parts, sizeof now->parts) == 0, "the parts are not the plain responder's");
+    demand(driver, memcmp(now->algorithms, plain->algorithms, sizeof now->algorithms) == 0,
+        "the algorithms are not the plain responder's");
 }
 
 static void start_call(struct driver *driver)
@@ -282,4 +299,14 @@ void call_read_image(struct driver *driver, unsigned places)
     const uint32_t result = library_read_image(driver, places);
     demand_inputs(driver);
     demand_plain(driver, result, plain_read_image(plain->image, plain->image_length));
+}
+
+void call_image_algorithms(struct driver *driver, unsigned places)
+{
+    struct world *plain = &driver->plain;
+    start_call(driver);
+    const uint32_t result = library_image_algorithms(driver, places);
+    demand_inputs(driver);
+    demand_plain(driver, result, plain_image_algorithms(plain->image, plain->image_length, plain->algorithms,
+        plain->algorithms_length));
 }

@@ -12,7 +12,7 @@ struct counts {
 };
 
 struct pens {
-    struct pen image, state, transcript, answer, request, nonce, signature, prefix, parts;
+    struct pen image, state, transcript, answer, request, nonce, signature, prefix, parts, algorithms;
     struct pen fixed_state, fixed_transcript;
 };
 
@@ -31,5 +31,6 @@ void call_respond(struct driver *driver, unsigned places);
 void call_finish(struct driver *driver, unsigned places);
 void call_to_sign(struct driver *driver, unsigned places);
 void call_read_image(struct driver *driver, unsigned places);
+void call_image_algorithms(struct driver *driver, unsigned places);
 
 #endif

@@ -102,10 +102,17 @@ static void step_to_sign(struct driver *driver, struct feed *feed, unsigned plac
     call_to_sign(driver, places);
 }
 
+static void step_image_algorithms(struct driver *driver, struct feed *feed, unsigned places)
+{
+    choose_lengths(&driver->world, feed);
+    memset(driver->world.algorithms, 0x3C, sizeof driver->world.algorithms);
+    call_image_algorithms(driver, places);
+}
+
 static void step(struct driver *driver, struct feed *feed)
 {
     struct world *world = &driver->world;
-    const unsigned choice = next(feed) % 28, places = next(feed);
+    const unsigned choice = next(feed) % 29, places = next(feed);
     switch (choice) {
     case 8: case 9: step_connect(driver, feed, places); break;
     case 10: case 11: case 12: step_finish(driver, feed, places); break;
@@ -123,6 +130,7 @@ static void step(struct driver *driver, struct feed *feed)
     case 25: step_negotiate(driver, feed, places); break;
     case 26: damage_image(world, feed); break;
     case 27: memset(world->answer, (int)next(feed), ANSWER_ROOM); break;
+    case 28: step_image_algorithms(driver, feed, places); break;
     default: step_request(driver, feed, choice, places);
     }
 }

@@ -254,8 +254,9 @@ static void write_algorithms(struct world *world, struct feed *feed)
     text[29] = (uint8_t)(extended - extended / 2);
     text[2] = (uint8_t)structures;
     for (unsigned i = 0; i < structures; i++) {
-        const unsigned entries = next(feed) & 1;
-        text[at] = (uint8_t)(2 + i);
+        const unsigned chance = next(feed), entries = chance & 1;
+        // Types rise, or one repeats, falls or is none.
+        text[at] = (uint8_t)(chance < 224 ? 2 + i : chance % 8);
         text[at + 1] = (uint8_t)(0x20 | entries);
         at += 4 + 4 * entries;
     }
@@ -364,8 +365,8 @@ static size_t length_near(struct feed *feed, size_t right, size_t room)
 // The signature's size of the image that stands now, if it is accepted.
 static size_t signature_size(const struct world *world)
 {
-    struct facts facts;
-    return plain_facts(world->image, world->image_length, &facts) == 0 ? facts.signature_size : 64;
+    const size_t size = plain_signature_size(world->image, world->image_length);
+    return size != 0 ? size : 64;
 }
 
 // One byte says whether any length is odd in this call.
@@ -381,6 +382,7 @@ void choose_lengths(struct world *world, struct feed *feed)
     world->signature_length = length_near(from, signature_size(world), SMALL_ROOM);
     world->prefix_length = length_near(from, 100, SMALL_ROOM);
     world->parts_length = length_near(from, 4, WORDS_ROOM);
+    world->algorithms_length = length_near(from, 7, WORDS_ROOM);
 }
 
 void right_lengths(struct world *world)
@@ -417,10 +419,9 @@ void full_state(struct world *world, struct feed *feed)
 
 void repair(struct world *world, struct feed *feed)
 {
-    struct facts facts;
     if (next(feed) % 8 == 0)
         return;
     memset(world->state, 0, sizeof world->state);
-    if (plain_facts(world->image, world->image_length, &facts) != 0)
+    if (plain_read_image(world->image, world->image_length) != 0)
         build_image(world, &good_shapes[next(feed) % GOOD_SHAPES]);
 }

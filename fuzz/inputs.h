@@ -39,6 +39,8 @@ struct world {
     size_t prefix_length;
     uint32_t parts[WORDS_ROOM];
     size_t parts_length;
+    uint32_t algorithms[WORDS_ROOM];
+    size_t algorithms_length;
 };
 
 // The next byte of the input, or the next two.

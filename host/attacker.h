@@ -9,6 +9,7 @@
 struct replayer {
     struct box *box;
     size_t length;
+    uint8_t nonce[NONCE_SIZE];
     uint8_t answer[MESSAGE_LIMIT];
 };
 
@@ -20,7 +21,15 @@ struct meddler {
     size_t offset;
 };
 
+// Asks for the digests while the box's chip takes its time over a signature.
+struct intruder {
+    struct box *box;
+    size_t length;
+    uint8_t answer[MESSAGE_LIMIT];
+};
+
 size_t replayer_exchange(void *replayer, struct bytes request, uint8_t *answer, size_t room);
 size_t meddler_exchange(void *meddler, struct bytes request, uint8_t *answer, size_t room);
+size_t intruder_exchange(void *intruder, struct bytes request, uint8_t *answer, size_t room);
 
 #endif

@@ -32,6 +32,7 @@ static void catch_copied_chain(struct stage *stage)
     place_panel_at(stage, &stage->second_box);
     made = made && panel_connect(&stage->panel, LARGE) == GOOD && panel_digests(&stage->panel) == GOOD
         && panel_chain(&stage->panel, 0, 1024) == GOOD;
+    show_bytes("box 1's chain in box 2's image", chain_bytes(&stage->panel.chain));
     show_check(stage->show, made, "a box with a copied chain shows that chain");
     check_verdict(stage, panel_challenge(&stage->panel, 0, 0), WRONG_SIGNATURE, "it is caught at CHALLENGE_AUTH");
     check_verdict(stage, panel_measurements(&stage->panel, 0, true), WRONG_SIGNATURE, "and at signed MEASUREMENTS");
@@ -47,6 +48,8 @@ static void catch_other_root(struct stage *stage)
         && provision_box(stage, &stage->second_box, &stage->second_chip, &chain);
     place_panel_at(stage, &stage->second_box);
     const enum verdict verdict = made ? panel_attest(&stage->panel, LARGE, 0, 1024) : SILENT;
+    show_bytes("the trusted root's hash", stage->panel.trusted_root);
+    show_bytes("the root hash in the chain", (struct bytes){stage->panel.chain.bytes + 4, stage->suite->digest_size});
     check_verdict(stage, verdict, UNKNOWN_ROOT, "a chain under another root is caught");
     maker_end(&forger);
 }
@@ -181,19 +184,37 @@ static void empty_transcripts(struct stage *stage)
     show_check(stage->show, good && panel_challenge(panel, 0, 0) == GOOD, "GET_VERSION empties all");
 }
 
+// A request that comes while the chip signs is Busy, and what is signed then is the CHALLENGE_AUTH that was awaited.
+static void ask_while_signing(struct stage *stage)
+{
+    struct intruder intruder = {.box = &stage->box};
+    place_panel(stage, (struct line){intruder_exchange, &intruder});
+    stage->box.conduct = TAKES_ITS_TIME;
+    const enum verdict verdict = challenge_anew(&stage->panel);
+    const struct bytes answer = {intruder.answer, intruder.length};
+    stage->box.conduct = SIGNS;
+    show_bytes("GET_DIGESTS while the chip signs is answered", answer);
+    show_check(stage->show, same_bytes(answer, BYTES(0x12, ERROR, 0x03, 0)), "it gets ERROR 0x03");
+    check_verdict(stage, verdict, GOOD, "the CHALLENGE_AUTH that was awaited");
+}
+
 static void fail_chip(struct stage *stage)
 {
     struct panel *panel = &stage->panel;
     const struct bytes error = BYTES(0x12, ERROR, 0x05, 0);
     place_panel_at(stage, &stage->box);
     bool good = panel_attest(panel, LARGE, 0, 1024) == GOOD;
-    stage->box.chip_fails = true;
+    stage->box.conduct = FAILS;
     good = good && panel_challenge(panel, 0, 0) == REFUSED && answered(stage, error);
     panel_forget_b(panel);
     show_check(stage->show, good, "a failed chip at CHALLENGE gives 12 7F 05 00");
     good = panel_measurements(panel, 0, true) == REFUSED && answered(stage, error);
     show_check(stage->show, good, "a failed chip at GET_MEASUREMENTS gives 12 7F 05 00");
-    stage->box.chip_fails = false;
+    stage->box.conduct = SIGNS_SHORT;
+    good = panel_challenge(panel, 0, 0) == REFUSED && answered(stage, error);
+    panel_forget_b(panel);
+    show_check(stage->show, good, "a signature one byte short is number 16, and finished again 12 7F 05 00");
+    stage->box.conduct = SIGNS;
     check_verdict(stage, panel_challenge(panel, 0, 0), GOOD, "the chip works again, the next CHALLENGE_AUTH");
     check_verdict(stage, panel_measurements(panel, 0, true), GOOD, "and the next MEASUREMENTS");
 }
@@ -211,6 +232,10 @@ static void damage_image(struct stage *stage, size_t length, size_t offset, uint
     if (!before)
         abort();
     memcpy(before, box, sizeof *before);
+    if (offset < length)
+        printf("      byte %zu of the image is made %02X, it was %02X\n", offset, value, stage->box.image[offset]);
+    else
+        printf("      the image's %zu bytes are cut to %zu\n", stage->box.image_length, length);
     const size_t given = box_exchange(box, BYTES(0x10, GET_VERSION, 0, 0), answer, sizeof answer);
     before->number = number;
     show_check(stage->show, given == 0 && memcmp(before, box, sizeof *before) == 0
@@ -344,6 +369,7 @@ void audit(struct show *show, const struct suite *suite)
     refuse_damaged_requests(stage);
     pad_and_reserve(stage);
     empty_transcripts(stage);
+    ask_while_signing(stage);
     fail_chip(stage);
     damage_images(stage);
     ninth_chain(stage);

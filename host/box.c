@@ -123,7 +123,7 @@ static bool signed_by_chip(const struct box *box, uint8_t *signature)
 {
     uint8_t prefix[PREFIX_SIZE];
     uint32_t parts[SPDM_PARTS_WORDS];
-    if (box->chip_fails)
+    if (box->conduct == FAILS)
         return false;
     const uint32_t result = spdm_to_sign(box->state, STATE_WORDS, prefix, sizeof prefix, parts, SPDM_PARTS_WORDS);
     if (SPDM_NUMBER(result) != 0)
@@ -133,33 +133,54 @@ static bool signed_by_chip(const struct box *box, uint8_t *signature)
     return chip_sign(box->chip, (struct bytes){prefix, sizeof prefix}, first, second, signature);
 }
 
+static size_t finish_with(struct box *box, bool chip_ok, struct bytes signature)
+{
+    return take_result(box, spdm_finish(box->image, box->image_length, box->state, STATE_WORDS,
+        box->transcript, sizeof box->transcript, box->answer, sizeof box->answer,
+        chip_ok, signature.at, signature.length));
+}
+
+// With number 16 the answer is awaited still, so it is finished again, as for a chip that failed.
 static size_t finish(struct box *box)
 {
     uint8_t signature[SIGNATURE_LIMIT] = {0};
     const bool good = signed_by_chip(box, signature);
-    return take_result(box, spdm_finish(box->image, box->image_length, box->state, STATE_WORDS,
-        box->transcript, sizeof box->transcript, box->answer, sizeof box->answer,
-        good, signature, box->chip->suite->signature_size));
+    const size_t size = box->chip->suite->signature_size - (box->conduct == SIGNS_SHORT);
+    const size_t length = finish_with(box, good, (struct bytes){signature, size});
+    return box->number == SPDM_WRONG_SIGNATURE ? finish_with(box, false, (struct bytes){signature, 0}) : length;
 }
 
-static size_t respond(struct box *box, struct bytes request)
+static size_t respond(struct box *box, struct bytes request, uint8_t answer[MESSAGE_LIMIT])
 {
     uint8_t nonce[NONCE_SIZE];
-    if (RAND_bytes(nonce, sizeof nonce) != 1)
-        return 0;
+    // With no nonce the library gives number 13.
+    const size_t drawn = RAND_bytes(nonce, sizeof nonce) == 1 ? sizeof nonce : 0;
     return take_result(box, spdm_respond(box->image, box->image_length, box->state, STATE_WORDS,
-        box->transcript, sizeof box->transcript, box->answer, sizeof box->answer,
-        request.at, request.length, nonce, sizeof nonce));
+        box->transcript, sizeof box->transcript, answer, MESSAGE_LIMIT,
+        request.at, request.length, nonce, drawn));
 }
 
+static size_t give(struct bytes message, uint8_t *answer, size_t room)
+{
+    if (message.length > room)
+        return 0;
+    memcpy(answer, message.at, message.length);
+    return message.length;
+}
+
+size_t box_deliver(struct box *box, uint8_t *answer, size_t room)
+{
+    return give((struct bytes){box->answer, finish(box)}, answer, room);
+}
+
+// Only an answer just written is finished: an ERROR in the meantime is sent as it is, and the wait goes on.
 size_t box_exchange(void *other, struct bytes request, uint8_t *answer, size_t room)
 {
     struct box *box = other;
-    size_t length = respond(box, request);
-    if (box->number == 0 && box->state[SPDM_STATE_AWAITED] != 0)
-        length = finish(box);
-    if (length > room)
-        return 0;
-    memcpy(answer, box->answer, length);
-    return length;
+    uint8_t *written = box->state[SPDM_STATE_AWAITED] != 0 ? box->meantime : box->answer;
+    const size_t length = respond(box, request, written);
+    const bool awaited = length > 0 && box->state[SPDM_STATE_AWAITED] != 0 && written[1] != SPDM_ERROR;
+    if (!awaited)
+        return give((struct bytes){written, length}, answer, room);
+    return box->conduct == TAKES_ITS_TIME ? 0 : box_deliver(box, answer, room);
 }

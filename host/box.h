@@ -12,14 +12,19 @@ enum {
     CT_EXPONENT = 14,
 };
 
+// What the chip does when it is asked to sign.
+enum chip_conduct { SIGNS, FAILS, SIGNS_SHORT, TAKES_ITS_TIME };
+
+// An awaited answer stays in `answer` until it is finished; answers in the meantime are written to `meantime`.
 struct box {
     const struct chip *chip;
-    bool chip_fails;
+    enum chip_conduct conduct;
     size_t image_length;
     uint8_t image[IMAGE_LIMIT];
     uint32_t state[STATE_WORDS];
     uint8_t transcript[TRANSCRIPT_SIZE];
     uint8_t answer[MESSAGE_LIMIT];
+    uint8_t meantime[MESSAGE_LIMIT];
     uint32_t number;
 };
 
@@ -42,7 +47,10 @@ struct provision {
 bool box_make(struct box *box, const struct chip *chip, const struct provision *provision);
 
 // One request in, one answer out: the library's calls in their order, the chip between them.
-// Gives the answer's length; 0 if the library gave a number, which box->number then holds.
+// Gives the answer's length; 0 if the library gave a number, which box->number then holds, or the chip takes its time.
 size_t box_exchange(void *box, struct bytes request, uint8_t *answer, size_t room);
+
+// The chip is done: the awaited answer, finished.
+size_t box_deliver(struct box *box, uint8_t *answer, size_t room);
 
 #endif

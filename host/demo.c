@@ -84,14 +84,26 @@ static void export_box(struct show *show, const struct suite *suite, const char 
     stage_end(stage);
 }
 
+static int usage(FILE *file, int status)
+{
+    fputs("usage: demo                       panels talk to boxes, then the checks; status 1 if one is wrong\n"
+        "       demo --export LINES IMAGE  writes a box's image, and the lines that make_image makes it of\n"
+        "       demo --help                prints this\n", file);
+    return status;
+}
+
 int main(int count, char **words)
 {
     struct show show = {0};
     const struct suite *p256 = suite_by_numbers(0, 4), *p384 = suite_by_numbers(1, 7);
+    if (count == 2 && strcmp(words[1], "--help") == 0)
+        return usage(stdout, 0);
     if (count == 4 && strcmp(words[1], "--export") == 0) {
         export_box(&show, p256, words[2], words[3]);
         return show_end(&show);
     }
+    if (count > 1)
+        return usage(stderr, 2);
     meet(&show, p256, false);
     meet(&show, p384, false);
     meet(&show, suite_by_numbers(2, 7), true);

@@ -233,6 +233,31 @@ void show_exchange(struct show *show, struct bytes request, struct bytes answer)
     put_message(show, "  <- box  ", answer);
 }
 
+void show_bytes(const char *what, struct bytes run)
+{
+    printf("      %s, %zu bytes:", what, run.length);
+    put_hex(run, 20);
+    printf("\n");
+}
+
+// The bytes about the changed one, which is in brackets.
+static void put_around(const char *when, struct bytes message, size_t offset, uint8_t value)
+{
+    const size_t reach = 6, from = offset < reach ? 0 : offset - reach;
+    printf("      %s%s", when, from > 0 ? " .." : "");
+    for (size_t i = from; i < message.length && i <= offset + reach; i++)
+        printf(i == offset ? " [%02X]" : " %02X", i == offset ? value : message.at[i]);
+    printf("%s\n", offset + reach + 1 < message.length ? " .." : "");
+}
+
+void show_change(struct bytes message, size_t offset, uint8_t before)
+{
+    const char *name = message.length > 1 ? name_of(message.at[1]) : "(nothing)";
+    printf("      byte %zu of %s, %zu bytes, is changed on the way\n", offset, name, message.length);
+    put_around("sent:   ", message, offset, before);
+    put_around("arrives:", message, offset, message.at[offset]);
+}
+
 void show_title(struct show *show, const char *title)
 {
     if (!show->quiet)

@@ -19,6 +19,11 @@ void show_note(struct show *show, const char *note);
 // One request and its answer. Of many portions of a chain the first two and the last are printed.
 void show_exchange(struct show *show, struct bytes request, struct bytes answer);
 
+// What an attack or a fault is made of; always printed, before its check.
+void show_bytes(const char *what, struct bytes run);
+// A message whose byte at `offset` was `before`.
+void show_change(struct bytes message, size_t offset, uint8_t before);
+
 // A named check. Its line is always printed.
 void show_check(struct show *show, bool good, const char *format, ...) __attribute__((format(printf, 3, 4)));
 

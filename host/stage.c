@@ -85,5 +85,7 @@ bool answered(const struct stage *stage, struct bytes wanted)
 void check_error(struct stage *stage, struct bytes request, struct bytes error, const char *what)
 {
     panel_send(&stage->panel, request);
+    show_bytes("request", request);
+    show_bytes("answer", (struct bytes){stage->panel.answer, stage->panel.answer_length});
     show_check(stage->show, answered(stage, error), "%s gets ERROR 0x%02X", what, error.at[2]);
 }

@@ -38,7 +38,7 @@ void place_panel_at(struct stage *stage, struct box *box);
 void check_verdict(struct stage *stage, enum verdict found, enum verdict wanted, const char *what);
 // The answer that the panel holds is exactly this one.
 bool answered(const struct stage *stage, struct bytes wanted);
-// Sends a request that must get this ERROR.
+// Sends a request that must get this ERROR, and shows both.
 void check_error(struct stage *stage, struct bytes request, struct bytes error, const char *what);
 
 #endif

@@ -1,22 +1,25 @@
 /*
  * An SPDM 1.2 responder for one connection.
  *
- * Every function tests all that it is given and always returns. It keeps nothing between two calls, allocates nothing and
- * calls nothing but memcpy and memset: the host holds state, transcript and answer, and lends them (docs/HOST.md).
+ * Every function tests all that it is given and always returns. It keeps nothing between two calls, allocates nothing
+ * and calls nothing but memcpy and memset, by their names on the processor. The host holds state, transcript and
+ * answer, and lends them (docs/HOST.md).
  *
- * A pointer and the length behind it lend that many elements for the time of the call: bytes, or 32-bit words for
- * `state` and `parts`. Buffers that are written must not overlap any other buffer of the same call. A pointer with
- * length 0 is never followed.
+ * A pointer and the length behind it lend that many elements for the time of the call: bytes, at any address, or 32-bit
+ * words for `state`, `parts` and `algorithms`, aligned as a uint32_t is. Buffers that are written must not overlap any
+ * other buffer of the same call. A pointer with length 0 is never followed. Lengths have 64 bits on every processor.
  */
 #ifndef SPDM_RESPONDER_H
 #define SPDM_RESPONDER_H
 
-#include <stddef.h>
 #include <stdint.h>
 
 #ifdef __cplusplus
 extern "C" {
 #endif
+
+/* The version of this header: one more with every change of a declaration, of a value or of what a call gives. */
+#define SPDM_RESPONDER_VERSION 1
 
 /* Sizes. */
 #define SPDM_STATE_WORDS 8         /* exactly this many words of state */
@@ -26,6 +29,9 @@ extern "C" {
 #define SPDM_PREFIX_LEN 100        /* the prefix that is signed before the hash */
 #define SPDM_PARTS_WORDS 4         /* offset and length of two parts */
 #define SPDM_IMAGE_MAX 36864       /* the longest image that is accepted */
+#define SPDM_ALGORITHMS_WORDS 7    /* what spdm_image_algorithms shows */
+#define SPDM_HASH_MAX 64           /* the longest digest, */
+#define SPDM_SIGNATURE_MAX 512     /*   and the longest signature of an image */
 
 /*
  * The state of a connection: 8 words, all zero when it is fresh. The host may read them, and must write none but to
@@ -49,6 +55,54 @@ extern "C" {
 #define SPDM_PARTS_SECOND_OFFSET 2 /* B, or M */
 #define SPDM_PARTS_SECOND_LENGTH 3
 
+/* `algorithms` after spdm_image_algorithms. */
+#define SPDM_ALGORITHMS_EXPONENT 0       /* CTExponent */
+#define SPDM_ALGORITHMS_HASH 1           /* hash number */
+#define SPDM_ALGORITHMS_HASH_SIZE 2      /* H: bytes of a digest */
+#define SPDM_ALGORITHMS_SIGNATURE 3      /* signature number */
+#define SPDM_ALGORITHMS_SIGNATURE_SIZE 4 /* S: bytes of a signature */
+#define SPDM_ALGORITHMS_SLOTS 5          /* bit n: slot n is filled */
+#define SPDM_ALGORITHMS_MEASUREMENTS 6   /* count of measurements */
+
+/* Hash numbers, which are bits of BaseHashAlgo. */
+#define SPDM_HASH_SHA_256 0        /* H = 32 */
+#define SPDM_HASH_SHA_384 1        /* H = 48 */
+#define SPDM_HASH_SHA_512 2        /* H = 64 */
+#define SPDM_HASH_SHA3_256 3       /* H = 32 */
+#define SPDM_HASH_SHA3_384 4       /* H = 48 */
+#define SPDM_HASH_SHA3_512 5       /* H = 64 */
+
+/* Signature numbers, which are bits of BaseAsymAlgo. ECDSA's signature is r, then s: S / 2 bytes each, big-endian. */
+#define SPDM_SIGNATURE_RSASSA_2048 0 /* S = 256 */
+#define SPDM_SIGNATURE_RSAPSS_2048 1 /* S = 256 */
+#define SPDM_SIGNATURE_RSASSA_3072 2 /* S = 384 */
+#define SPDM_SIGNATURE_RSAPSS_3072 3 /* S = 384 */
+#define SPDM_SIGNATURE_ECDSA_P256 4  /* S = 64 */
+#define SPDM_SIGNATURE_RSASSA_4096 5 /* S = 512 */
+#define SPDM_SIGNATURE_RSAPSS_4096 6 /* S = 512 */
+#define SPDM_SIGNATURE_ECDSA_P384 7  /* S = 96 */
+#define SPDM_SIGNATURE_ECDSA_P521 8  /* S = 132 */
+
+/* Codes of the requests that are served: byte 1. */
+#define SPDM_GET_DIGESTS 0x81
+#define SPDM_GET_CERTIFICATE 0x82
+#define SPDM_CHALLENGE 0x83
+#define SPDM_GET_VERSION 0x84
+#define SPDM_GET_MEASUREMENTS 0xE0
+#define SPDM_GET_CAPABILITIES 0xE1
+#define SPDM_NEGOTIATE_ALGORITHMS 0xE3
+
+/* An ERROR: byte 1 of the answer is SPDM_ERROR, byte 2 one of these codes. */
+#define SPDM_ERROR 0x7F
+#define SPDM_ERROR_INVALID_REQUEST 0x01     /* under 4 bytes, too short for its layout, or a field wrong */
+#define SPDM_ERROR_BUSY 0x03                /* a signature is awaited */
+#define SPDM_ERROR_UNEXPECTED_REQUEST 0x04  /* wrong phase, or measurements that were not selected */
+#define SPDM_ERROR_UNSPECIFIED 0x05         /* no room in the transcript, or the chip failed */
+#define SPDM_ERROR_UNSUPPORTED_REQUEST 0x07 /* not served, measurements of an image without any; byte 3 is the code */
+#define SPDM_ERROR_RESPONSE_TOO_LARGE 0x0D  /* the answer is over the peer's size; bytes 4 to 7 are its length */
+#define SPDM_ERROR_REQUEST_TOO_LARGE 0x0E   /* over 4,608 bytes */
+#define SPDM_ERROR_VERSION_MISMATCH 0x41    /* wrong version byte */
+
 /*
  * A result is number * 65536 + length. With a number (not 0) the length is 0, nothing was written, and state and
  * buffers are as they were. Without one the length is that of the answer.
@@ -67,7 +121,7 @@ extern "C" {
 #define SPDM_IMAGE_CHAIN 8         /* a chain's own length field differs */
 
 /* Numbers of a call. */
-#define SPDM_SHORT_BUFFER 11       /* answer under 4,608 bytes; for spdm_to_sign: prefix under 100, or parts under 4 */
+#define SPDM_SHORT_BUFFER 11       /* answer under 4,608 bytes, prefix under 100; parts under 4 words, algorithms 7 */
 #define SPDM_SHORT_TRANSCRIPT 12   /* transcript under 16,384 bytes */
 #define SPDM_WRONG_NONCE 13        /* nonce not 32 bytes */
 #define SPDM_WRONG_STATE 14        /* state not 8 words or out of its bounds; spdm_to_sign: bounds that need no image */
@@ -91,26 +145,27 @@ extern "C" {
  * they were.
  *   After a refused request, whose answer is an ERROR (its second byte is 0x7F): only the 4 or 8 bytes of the ERROR
  *   were written. State and transcript are as they were, but for this: a GET_MEASUREMENTS (request[1] is 0xE0) that is
- *   refused because it is shorter than its layout or a field is wrong, for its answer's size or for want of room empties
- *   M: state[SPDM_STATE_M] is 0, and no byte of the transcript is changed. The ERROR tells: this is so exactly where its
- *   code answer[2] is 0x01, 0x0D or 0x05 and request_len is 4 or more.
+ *   refused because it is shorter than its layout or a field is wrong, for its answer's size or for want of room
+ *   empties M: state[SPDM_STATE_M] is 0, and no byte of the transcript is changed. The ERROR tells: this is so exactly
+ *   where its code answer[2] is 0x01, 0x0D or 0x05 and request_len is 4 or more.
  *   After an accepted request: `answer` holds the answer, the request (as far as its layout goes) and the answer were
  *   appended to the transcript, where no other byte was changed, and `state` is the next state. Where
  *   state[SPDM_STATE_AWAITED] is not 0 afterwards, the answer must not be sent yet: its signature is zeros, to be
  *   filled in by spdm_finish.
  */
-uint32_t spdm_respond(const uint8_t *image, size_t image_len,
-                      uint32_t *state, size_t state_len,
-                      uint8_t *transcript, size_t transcript_len,
-                      uint8_t *answer, size_t answer_len,
-                      const uint8_t *request, size_t request_len,
-                      const uint8_t *nonce, size_t nonce_len);
+uint32_t spdm_respond(const uint8_t *image, uint64_t image_len,
+                      uint32_t *state, uint64_t state_len,
+                      uint8_t *transcript, uint64_t transcript_len,
+                      uint8_t *answer, uint64_t answer_len,
+                      const uint8_t *request, uint64_t request_len,
+                      const uint8_t *nonce, uint64_t nonce_len);
 
 /*
  * Finishes the awaited answer with the chip's signature, or with an ERROR where the chip failed. `answer` is the buffer
  * that spdm_respond wrote the awaited answer to, unchanged since.
  *
- * chip_ok: 0 if the chip failed, anything else if it succeeded. The signature is not looked at if it failed.
+ * chip_ok: 0 if the chip failed, anything else if it succeeded, a negative error code too: lend `status == OK`, not the
+ * status. The signature is not looked at if it failed.
  *
  * Numbers, the first that holds, in this order:
  *   1-8  the image has this fault
@@ -127,12 +182,12 @@ uint32_t spdm_respond(const uint8_t *image, size_t image_len,
  * No other byte of `answer` was changed. The transcript is never written. In `state` nothing is awaited any more, and B
  * (after a CHALLENGE) or M (after a GET_MEASUREMENTS) is empty: words 4 or 5, 6 and 7 are 0, the others as they were.
  */
-uint32_t spdm_finish(const uint8_t *image, size_t image_len,
-                     uint32_t *state, size_t state_len,
-                     uint8_t *transcript, size_t transcript_len,
-                     uint8_t *answer, size_t answer_len,
+uint32_t spdm_finish(const uint8_t *image, uint64_t image_len,
+                     uint32_t *state, uint64_t state_len,
+                     const uint8_t *transcript, uint64_t transcript_len,
+                     uint8_t *answer, uint64_t answer_len,
                      uint32_t chip_ok,
-                     const uint8_t *signature, size_t signature_len);
+                     const uint8_t *signature, uint64_t signature_len);
 
 /*
  * Shows what to hash and sign for the awaited signature: the hash runs over A and then B (or M), and the signature over
@@ -152,15 +207,30 @@ uint32_t spdm_finish(const uint8_t *image, size_t image_len,
  * written. For the same state spdm_respond and spdm_finish give 14 only for what goes by the image lent to them: a
  * selection where it has no measurements, or an awaited answer shorter than 4 + S.
  */
-uint32_t spdm_to_sign(const uint32_t *state, size_t state_len,
-                      uint8_t *prefix, size_t prefix_len,
-                      uint32_t *parts, size_t parts_len);
+uint32_t spdm_to_sign(const uint32_t *state, uint64_t state_len,
+                      uint8_t *prefix, uint64_t prefix_len,
+                      uint32_t *parts, uint64_t parts_len);
 
 /*
  * Whether an image is accepted: the result is 0, or has the number 1-8 of its first fault. Nothing is written.
  * spdm_respond and spdm_finish read the image themselves at each call; this is to test one before it is put to use.
  */
-uint32_t spdm_read_image(const uint8_t *image, size_t image_len);
+uint32_t spdm_read_image(const uint8_t *image, uint64_t image_len);
+
+/*
+ * Shows what an image says of the box, so that a host need not take it apart itself: which hash and which signature it
+ * has, how long they are, and which slots are filled.
+ *
+ * Numbers, the first that holds, in this order:
+ *   1-8  the image has this fault
+ *   11   algorithms_len is under 7
+ * (No others are given.) Afterwards `algorithms` is as it was.
+ *
+ * Without a number the result is 0: the first 7 words of `algorithms` are CTExponent, hash number, H, signature number,
+ * S, slot mask and count of measurements. What lies past them is as it was.
+ */
+uint32_t spdm_image_algorithms(const uint8_t *image, uint64_t image_len,
+                               uint32_t *algorithms, uint64_t algorithms_len);
 
 #ifdef __cplusplus
 }

@@ -8,50 +8,68 @@ pub mod raw {
     extern "C" {
         pub fn spdm_respond(
             image: *const u8,
-            image_len: usize,
+            image_len: u64,
             state: *mut u32,
-            state_len: usize,
+            state_len: u64,
             transcript: *mut u8,
-            transcript_len: usize,
+            transcript_len: u64,
             answer: *mut u8,
-            answer_len: usize,
+            answer_len: u64,
             request: *const u8,
-            request_len: usize,
+            request_len: u64,
             nonce: *const u8,
-            nonce_len: usize,
+            nonce_len: u64,
         ) -> u32;
 
         pub fn spdm_finish(
             image: *const u8,
-            image_len: usize,
+            image_len: u64,
             state: *mut u32,
-            state_len: usize,
-            transcript: *mut u8,
-            transcript_len: usize,
+            state_len: u64,
+            transcript: *const u8,
+            transcript_len: u64,
             answer: *mut u8,
-            answer_len: usize,
+            answer_len: u64,
             chip_ok: u32,
             signature: *const u8,
-            signature_len: usize,
+            signature_len: u64,
         ) -> u32;
 
         pub fn spdm_to_sign(
             state: *const u32,
-            state_len: usize,
+            state_len: u64,
             prefix: *mut u8,
-            prefix_len: usize,
+            prefix_len: u64,
             parts: *mut u32,
-            parts_len: usize,
+            parts_len: u64,
         ) -> u32;
 
-        pub fn spdm_read_image(image: *const u8, image_len: usize) -> u32;
+        pub fn spdm_read_image(image: *const u8, image_len: u64) -> u32;
+
+        pub fn spdm_image_algorithms(
+            image: *const u8,
+            image_len: u64,
+            algorithms: *mut u32,
+            algorithms_len: u64,
+        ) -> u32;
     }
+}
+
+/// A length as the library takes it: 64 bits on every processor.
+fn length<T>(lent: &[T]) -> u64 {
+    lent.len() as u64
 }
 
 /// Reads an image: 0 if it is accepted.
 pub fn read_image(image: &[u8]) -> u32 {
     // SAFETY: pointer and length are those of one slice, which the library only reads.
-    unsafe { raw::spdm_read_image(image.as_ptr(), image.len()) }
+    unsafe { raw::spdm_read_image(image.as_ptr(), length(image)) }
+}
+
+/// Tells what an image says of its box.
+pub fn image_algorithms(image: &[u8], algorithms: &mut [u32]) -> u32 {
+    // SAFETY: as in `respond`.
+    unsafe { raw::spdm_image_algorithms(image.as_ptr(), length(image), algorithms.as_mut_ptr(), length(algorithms)) }
 }
 
 /// Answers a request.
@@ -67,17 +85,17 @@ pub fn respond(
     unsafe {
         raw::spdm_respond(
             image.as_ptr(),
-            image.len(),
+            length(image),
             state.as_mut_ptr(),
-            state.len(),
+            length(state),
             transcript.as_mut_ptr(),
-            transcript.len(),
+            length(transcript),
             answer.as_mut_ptr(),
-            answer.len(),
+            length(answer),
             request.as_ptr(),
-            request.len(),
+            length(request),
             nonce.as_ptr(),
-            nonce.len(),
+            length(nonce),
         )
     }
 }
@@ -107,16 +125,16 @@ pub fn finish_with(
     unsafe {
         raw::spdm_finish(
             image.as_ptr(),
-            image.len(),
+            length(image),
             state.as_mut_ptr(),
-            state.len(),
-            transcript.as_mut_ptr(),
-            transcript.len(),
+            length(state),
+            transcript.as_ptr(),
+            length(transcript),
             answer.as_mut_ptr(),
-            answer.len(),
+            length(answer),
             chip_ok,
             signature.as_ptr(),
-            signature.len(),
+            length(signature),
         )
     }
 }
@@ -127,11 +145,11 @@ pub fn to_sign(state: &[u32], prefix: &mut [u8], parts: &mut [u32]) -> u32 {
     unsafe {
         raw::spdm_to_sign(
             state.as_ptr(),
-            state.len(),
+            length(state),
             prefix.as_mut_ptr(),
-            prefix.len(),
+            length(prefix),
             parts.as_mut_ptr(),
-            parts.len(),
+            length(parts),
         )
     }
 }

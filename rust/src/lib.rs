@@ -2,8 +2,8 @@
 //!
 //! The proved responder is a static library with a C interface ([`ffi`]). [`plain`] is a second responder, written
 //! from paper 01 and what paper 02 amends of it, without a look at the first one's code. Tests feed both the same bytes
-//! and compare everything they leave behind. [`tuned`] is that second responder with its reader made fast by hand, a mark for the
-//! proved one's speed.
+//! and compare everything they leave behind; `plain_c/` makes it a static library, for the driver of `fuzz/`.
+//! [`tuned`] is that second responder with its reader made fast by hand, a mark for the proved one's speed.
 //!
 //! # How to run
 //!

@@ -3,8 +3,8 @@
 //! It shares no code with the proved responder and was written from the paper, not from that code. Nothing in
 //! it is `unsafe`. Each call walks the records of the image once and keeps slices of it.
 //!
-//! The three public calls [`respond`], [`finish`] and [`to_sign`], and [`read_image`], have the meaning of the
-//! four functions of the C interface, slices taking the place of pointer and length.
+//! The public calls [`respond`], [`finish`], [`to_sign`], [`read_image`] and [`image_algorithms`] have the meaning of
+//! the five functions of the C interface, slices taking the place of pointer and length.
 
 #![forbid(unsafe_code)]
 
@@ -877,6 +877,27 @@ pub(crate) fn outcome(result: Result<usize, Number>) -> u32 {
 #[inline(never)]
 pub fn read_image(image: &[u8]) -> u32 {
     outcome(Image::read(image).map(|_| 0))
+}
+
+/// Tells what an image says of its box, in the first seven words: CTExponent, hash number, H, signature number, S, the
+/// mask of the filled slots and the count of measurements.
+#[inline(never)]
+pub fn image_algorithms(image: &[u8], algorithms: &mut [u32]) -> u32 {
+    outcome(Image::read(image).and_then(|image| try_image_algorithms(&image, algorithms)))
+}
+
+pub(crate) fn try_image_algorithms<'i>(image: &impl Provision<'i>, algorithms: &mut [u32]) -> Result<usize, Number> {
+    let told = algorithms.first_chunk_mut().ok_or(Number::AnswerBuffer)?;
+    *told = [
+        u32::from(image.ct_exponent()),
+        u32::from(image.hash_number()),
+        image.hash_size() as u32,
+        u32::from(image.signature_number()),
+        image.signature_size() as u32,
+        u32::from(image.slot_mask()),
+        image.measurements().len() as u32,
+    ];
+    Ok(0)
 }
 
 /// Answers a request.

@@ -174,6 +174,12 @@ pub fn read_image(image: &[u8]) -> u32 {
     on_image!(image, |_| Ok(0))
 }
 
+/// Tells what an image says of its box.
+#[inline(never)]
+pub fn image_algorithms(image: &[u8], algorithms: &mut [u32]) -> u32 {
+    on_image!(image, |read| plain::try_image_algorithms(&read, algorithms))
+}
+
 /// Answers a request.
 #[inline(never)]
 pub fn respond(

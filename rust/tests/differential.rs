@@ -165,6 +165,14 @@ impl Spec {
         S[self.signature]
     }
 
+    /// What `image_algorithms` is to tell.
+    fn algorithms(&self) -> [u32; 7] {
+        let exponent = u32::from(self.records[0].1[0]);
+        let mask = self.chains.iter().map(|chain| 1 << chain.0).sum();
+        let (h, s, count) = (self.h() as u32, self.s() as u32, self.indices.len() as u32);
+        [exponent, self.hash as u32, h, self.signature as u32, s, mask, count]
+    }
+
     /// The sizes of the answers that this image can give in phase 3, signature left off.
     fn unsigned_sizes(&self) -> [usize; 6] {
         let h = self.h();
@@ -1107,6 +1115,30 @@ fn compare_to_sign(rng: &mut Rng, words: &[u32], met: &mut Met) -> Result<(), St
     Ok(())
 }
 
+/// What the image says of its box, by all three: results, the seven words and those past them.
+fn compare_algorithms(rng: &mut Rng, image: &[u8], lent: &Guarded<u8>) -> Result<(u32, Vec<u32>), String> {
+    let length = if rng.one_in(6) { rng.pick(&[0, 1, 6, 8, 16]) } else { 7 };
+    let word = rng.word();
+    let before = vec![word; length];
+    let mut told = Both::new(rng, &before, !word);
+    let mut by_tuned = before.clone();
+    let plain = plain::image_algorithms(image, &mut told.plain);
+    let library = ffi::image_algorithms(lent.get(), told.library.get_mut());
+    let tuned = tuned::image_algorithms(image, &mut by_tuned);
+    let report = |what: String| format!("image_algorithms of {length} words: {what}");
+    if (library, tuned) != (plain, plain) {
+        return Err(report(format!("plain gives {plain:#x}, tuned {tuned:#x}, the library {library:#x}")));
+    }
+    told.compare("algorithms").map_err(report)?;
+    if by_tuned != told.plain {
+        return Err(report(format!("plain tells {:?}, tuned {by_tuned:?}", told.plain)));
+    }
+    if plain != 0 && told.plain != before {
+        return Err(report("a number, and yet a word was changed (on all sides)".to_owned()));
+    }
+    Ok((plain, told.plain))
+}
+
 fn from_env(name: &str, default: u64) -> u64 {
     match std::env::var(name) {
         Err(_) => default,
@@ -1197,6 +1229,13 @@ fn random_images() {
         );
         let tuned = tuned::read_image(&image);
         assert!(tuned == plain, "seed {seed}, image {made}: plain gives {plain:#x}, tuned {tuned:#x}: {}", hex(&image));
+        let (result, told) = compare_algorithms(&mut rng, &image, &lent)
+            .unwrap_or_else(|what| panic!("DIFFERENCE at seed {seed}, image {made}: {what}: {}", hex(&image)));
+        let number = if plain != 0 { plain >> 16 } else { 11 * u32::from(told.len() < 7) };
+        assert!(result == number << 16, "seed {seed}, image {made}: {result:#x} with {} words", told.len());
+        if made % 16 == 0 && result == 0 {
+            assert_eq!(told[..7], spec.algorithms(), "seed {seed}, image {made}");
+        }
         unchanged("image", &lent, &image).unwrap_or_else(|what| panic!("seed {seed}, image {made}: {what}"));
         assert!(made % 16 != 0 || plain == 0, "seed {seed}, image {made}: a valid image is refused: {}", hex(&image));
         numbers[(plain >> 16) as usize] += 1;

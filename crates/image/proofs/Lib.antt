@@ -13,3 +13,4 @@ pub mod Given
 pub mod Found
 pub mod Verdicts
 pub mod SlotLaws
+pub mod Faults

@@ -8,8 +8,8 @@ use Rattle.wire.specs.Bytes.{leAt, beAt, part}
 use Rattle.wire.specs.Pick.{pick}
 use Rattle.image.specs.Limits.{imageLimit, imageVersion, headLength, identityKind, chainKind, measurementKind, summaryKind}
 use Rattle.image.specs.Limits.{identityLength, exponentLimit, hashLimit, signatureLimit, slotLength, slotLimit, chainsLimit}
-use Rattle.image.specs.Limits.{chainLeast, chainLimit, indexLimit, labelLength, typeLimit, measurementsLimit, wrongSize, wrongVersion}
-use Rattle.image.specs.Limits.{brokenRecord, wrongKind, tooMany, wrongLength, wrongField, wrongOwnLength}
+use Rattle.image.specs.Limits.{chainLeast, chainLimit, indexLimit, labelLength, typeLimit, measurementsLimit, wrongSize}
+use Rattle.image.specs.Limits.{wrongVersion, brokenRecord, wrongKind, tooMany, wrongLength, wrongField, wrongOwnLength}
 use Rattle.image.specs.Sizes.{digestSize}
 use Rattle.image.specs.Contents.{Chain, Measurement, Summary, Contents, slots, indices}
 use Rattle.image.specs.declared.Identity.{Identity}
@@ -135,13 +135,28 @@ abbrev pub identified : Identity → Contents
 identified i = record { identity = i; chains = []; measurements = []; summaries = [] }
 
 abbrev pub addChain : Contents → Chain → Contents
-addChain c x = record { identity = c .identity; chains = c .chains ++ (x ∷ []); measurements = c .measurements; summaries = c .summaries }
+addChain c x = record {
+  identity = c .identity;
+  chains = c .chains ++ (x ∷ []);
+  measurements = c .measurements;
+  summaries = c .summaries;
+}
 
 abbrev pub addMeasurement : Contents → Measurement → Contents
-addMeasurement c m = record { identity = c .identity; chains = c .chains; measurements = c .measurements ++ (m ∷ []); summaries = c .summaries }
+addMeasurement c m = record {
+  identity = c .identity;
+  chains = c .chains;
+  measurements = c .measurements ++ (m ∷ []);
+  summaries = c .summaries;
+}
 
 abbrev pub addSummary : Contents → Summary → Contents
-addSummary c s = record { identity = c .identity; chains = c .chains; measurements = c .measurements; summaries = c .summaries ++ (s ∷ []) }
+addSummary c s = record {
+  identity = c .identity;
+  chains = c .chains;
+  measurements = c .measurements;
+  summaries = c .summaries ++ (s ∷ []);
+}
 
 unfoldable pub extended : Contents → ℕ → List ℕ → Contents
 extended c kind body =
@@ -159,7 +174,9 @@ readOn c (frame kind body rest) = unless (recordFault (seen c) kind body) (readO
 unfoldable pub readAll : Frames → Result Contents
 readAll ended = number wrongKind
 readAll broken = number brokenRecord
-readAll (frame kind body rest) = pick (eqb kind identityKind) (unless (identityFault body) (readOn (identified (identityIn body)) rest)) (number wrongKind)
+readAll (frame kind body rest) =
+    pick (eqb kind identityKind) (unless (identityFault body) (readOn (identified (identityIn body)) rest))
+    (number wrongKind)
 
 unfoldable pub reading : List ℕ → Result Contents
 reading b =

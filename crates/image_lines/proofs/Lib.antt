@@ -5,3 +5,4 @@ pub mod CutLaws
 pub mod Taken
 pub mod ImageLaws
 pub mod TextWritten
+pub mod Faults

@@ -25,12 +25,16 @@ use Rattle.image_reader.specs.declared.Frame.the-variants as fr
 use Rattle.image_reader.specs.declared.Record.the-variants as rec
 
 -- what is seen past a measurement
-pub measurement-seen : (w : Seen) (kind key : ℕ) → kind ≡ measurementKind → seenAfter w kind key ≡ measured w (w .measurements + 1) key
-measurement-seen w kind key k = sym (pick-no _ _ _ _ (ne-eqb kind chainKind (λ z. omega arith)) (pick-yes _ _ _ _ (eq-eqb kind measurementKind k) refl))
+pub measurement-seen : (w : Seen) (kind key : ℕ) → kind ≡ measurementKind
+    → seenAfter w kind key ≡ measured w (w .measurements + 1) key
+measurement-seen w kind key k =
+    let other = ne-eqb kind chainKind (λ z. omega arith) in
+    sym (pick-no _ _ _ _ other (pick-yes _ _ _ _ (eq-eqb kind measurementKind k) refl))
 
 -- a measurement that passes every test
-measurement-good : (w : Seen) (body : List ℕ) → Measuring w → w .measurements < measurementsLimit → length body ≡ 2 + w .size
-    → w .index < getD body 0 0 → getD body 0 0 ≤ indexLimit → getD body 1 0 ≤ typeLimit → 0 ≡ recordFault w measurementKind body
+measurement-good : (w : Seen) (body : List ℕ) → Measuring w → w .measurements < measurementsLimit
+    → length body ≡ 2 + w .size → w .index < getD body 0 0 → getD body 0 0 ≤ indexLimit → getD body 1 0 ≤ typeLimit
+    → 0 ≡ recordFault w measurementKind body
 unfolding recordFault measurementFault
 measurement-good w body m room l low high type =
     let a = m .chained in
@@ -39,7 +43,8 @@ measurement-good w body m room l low high type =
     search picks depth 20
 
 -- a record that ends within the bytes is whole
-frame-whole : (b : List ℕ) (at : ℕ) → at + headLength + beAt 2 b at ≤ length b → fr.Whole (getD b (at + 2) 0) (at + headLength) (beAt 2 b at) ≡ frameAt b at
+frame-whole : (b : List ℕ) (at : ℕ) → at + headLength + beAt 2 b at ≤ length b
+    → fr.Whole (getD b (at + 2) 0) (at + headLength) (beAt 2 b at) ≡ frameAt b at
 unfolding frameAt
 frame-whole b at h =
     let p : at < length b = omega arith in
@@ -53,20 +58,25 @@ body-byte b start len i place h e = getD-take len (drop start b) i 0 h ∙ getD-
 
 -- the plain step on a whole measurement that passes every test
 step-good : (b : List ℕ) (v : Seen) (start len : ℕ) → 0 ≡ recordFault v measurementKind (part b start len)
-    → recordOf b v (fr.Whole measurementKind start len) ≡ rec.Good measurementKind start len (measured v (v .measurements + 1) (getD (part b start len) 0 0))
+    → recordOf b v (fr.Whole measurementKind start len)
+    ≡ rec.Good measurementKind start len (measured v (v .measurements + 1) (getD (part b start len) 0 0))
 unfolding recordOf heldRecord heldOf
 step-good b v start len f =
-    let g = pick-yes (eqb (recordFault v measurementKind (part b start len)) 0) (held.Good (seenAfter v measurementKind (getD (part b start len) 0 0))) _ (held.Fault (recordFault v measurementKind (part b start len))) (eq-eqb _ 0 (sym f)) refl in
-    rw (← g, measurement-seen v measurementKind (getD (part b start len) 0 0) refl)
+    let fault = recordFault v measurementKind (part b start len) in
+    let key = getD (part b start len) 0 0 in
+    let g = pick-yes (eqb fault 0) (held.Good (seenAfter v measurementKind key)) _ (held.Fault fault) (eq-eqb _ 0 (sym f)) refl in
+    rw (← g, measurement-seen v measurementKind key refl)
 
 -- the head of a measurement of that digest size, its index left off
 abbrev headOf : ℕ → ℕ
 headOf size = (2 + size) * 65536 + measurementKind * 256
 
 -- a head between two bounds is that of a measurement that the plain step finds good
-head-good : (b : List ℕ) (v : Seen) (at x : ℕ) → Head b at x → Measuring v → v .measurements < measurementsLimit → at + (headLength + (2 + v .size)) ≤ length b
+head-good : (b : List ℕ) (v : Seen) (at x : ℕ) → Head b at x → Measuring v → v .measurements < measurementsLimit
+    → at + (headLength + (2 + v .size)) ≤ length b
     → headOf (v .size) + v .index < x → x ≤ headOf (v .size) + indexLimit → getD b (at + headLength + 1) 0 ≤ typeLimit
-    → recordOf b v (frameAt b at) ≡ rec.Good measurementKind (at + headLength) (2 + v .size) (measured v (v .measurements + 1) (x - headOf (v .size)))
+    → recordOf b v (frameAt b at)
+    ≡ rec.Good measurementKind (at + headLength) (2 + v .size) (measured v (v .measurements + 1) (x - headOf (v .size)))
 head-good b v at x g m room inside low high type =
     let e = g .value in
     let k = g .kind in
@@ -74,18 +84,21 @@ head-good b v at x g m room inside low high type =
     let len : beAt 2 b at ≡ 2 + v .size = omega arith in
     let kind : getD b (at + 2) 0 ≡ measurementKind = omega arith in
     let index : getD b (at + headLength) 0 ≡ x - headOf (v .size) = omega arith in
-    let body = part b (at + headLength) (2 + v .size) in
-    let i₀ : getD body 0 0 ≡ getD b (at + headLength) 0 = body-byte b (at + headLength) (2 + v .size) 0 (at + headLength) (omega arith) (omega arith) in
-    let i₁ : getD body 1 0 ≡ getD b (at + headLength + 1) 0 = body-byte b (at + headLength) (2 + v .size) 1 (at + headLength + 1) (omega arith) (omega arith) in
-    let l : length body ≡ 2 + v .size = part-length b (at + headLength) (2 + v .size) (omega arith) in
+    let start = at + headLength in
+    let body = part b start (2 + v .size) in
+    let i₀ : getD body 0 0 ≡ getD b start 0 = body-byte b start (2 + v .size) 0 start (omega arith) (omega arith) in
+    let i₁ : getD body 1 0 ≡ getD b (start + 1) 0 = body-byte b start (2 + v .size) 1 (start + 1) (omega arith) (omega arith) in
+    let l : length body ≡ 2 + v .size = part-length b start (2 + v .size) (omega arith) in
     let z = measurement-good v body m room l (omega arith) (omega arith) (omega arith) in
     let w = rw (kind, len) at (frame-whole b at (omega arith)) in
-    ap (recordOf b v) (sym w) ∙ step-good b v (at + headLength) (2 + v .size) z ∙ ap (λ (n : ℕ). rec.Good measurementKind (at + headLength) (2 + v .size) (measured v (v .measurements + 1) n)) (i₀ ∙ index)
+    ap (recordOf b v) (sym w) ∙ step-good b v start (2 + v .size) z
+    ∙ ap (λ (n : ℕ). rec.Good measurementKind start (2 + v .size) (measured v (v .measurements + 1) n)) (i₀ ∙ index)
 
 -- A turn of the run. Of what was seen before it the loop keeps the digest size, the count and the last head only, so the run is claimed
 -- whatever else was seen.
 pub record Turn (b : List ℕ) (from size stride base far end n₀ last₀ at n last : ℕ) : Type 0 where
-  pub run : (w : Seen) → Measuring w → w .size ≡ size → w .measurements ≡ n₀ → base + w .index ≡ last₀ → Run b from w at (measured w n (last - base))
+  pub run : (w : Seen) → Measuring w → w .size ≡ size → w .measurements ≡ n₀ → base + w .index ≡ last₀
+      → Run b from w at (measured w n (last - base))
   pub low : base ≤ last
   pub high : last ≤ base + 255
   pub few : n ≤ measurementsLimit
@@ -97,8 +110,10 @@ pub record Turn (b : List ℕ) (from size stride base far end n₀ last₀ at n 
   pub near : end ≤ far
 
 -- before the first turn
-pub turn-first : (b : List ℕ) (from size stride base far end n last : ℕ) → base ≤ last → last ≤ base + 255 → n ≤ measurementsLimit → (k : ℕ) → k ≡ measurementsLimit - n
-    → from + k * stride ≡ far → from ≤ length b → stride ≡ headLength + (2 + size) → base ≡ headOf size → end ≤ length b → end ≤ far → Turn b from size stride base far end n last from n last
+pub turn-first : (b : List ℕ) (from size stride base far end n last : ℕ) → base ≤ last → last ≤ base + 255
+    → n ≤ measurementsLimit → (k : ℕ) → k ≡ measurementsLimit - n
+    → from + k * stride ≡ far → from ≤ length b → stride ≡ headLength + (2 + size) → base ≡ headOf size
+    → end ≤ length b → end ≤ far → Turn b from size stride base far end n last from n last
 turn-first b from size stride base far end n last low high few k q left inside step based within near =
     record {
       run = λ w m s c e.
@@ -115,7 +130,8 @@ turn-first b from size stride base far end n last low high few k q left inside s
       near = near;
     }
 
-module _ {b : List ℕ} {from size stride base far end n₀ last₀ at n last : ℕ} (t : Turn b from size stride base far end n₀ last₀ at n last) (r : at + stride ≤ end) where
+module _ {b : List ℕ} {from size stride base far end n₀ last₀ at n last : ℕ}
+    (t : Turn b from size stride base far end n₀ last₀ at n last) (r : at + stride ≤ end) where
   -- while the run goes on there is room for one more
   some-left : (k : ℕ) → at + k * stride ≡ far → 0 < k
   some-left zero l = let s = t .step in let e = t .near in absurd (omega arith)
@@ -146,7 +162,8 @@ module _ {b : List ℕ} {from size stride base far end n₀ last₀ at n last : 
             let o = t .low in
             let p = t .step in
             let i = t .within in
-            let h = head-good b v at x g (record { chained = m .chained; few = t .few; unsummed = m .unsummed }) turn-room (omega arith) (omega arith) (omega arith) type in
+            let y : Measuring v = record { chained = m .chained; few = t .few; unsummed = m .unsummed } in
+            let h = head-good b v at x g y turn-room (omega arith) (omega arith) (omega arith) type in
             let c : at + headLength + (2 + w .size) ≡ at + stride = omega arith in
             let j : x - headOf (w .size) ≡ x - base = ap (λ (y : ℕ). x - y) q in
             rw (c, j) at (more (t .run w m s k e) (at + headLength) (2 + w .size) _ h);

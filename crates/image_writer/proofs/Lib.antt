@@ -3,3 +3,4 @@ pub mod RoundTrip
 pub mod Drafts
 pub mod Rest
 pub mod Promise
+pub mod Faults

@@ -7,3 +7,5 @@ pub mod SameFacts
 pub mod Hashed
 pub mod Refusals
 pub mod Flows
+pub mod OtherImages
+pub mod Settled

@@ -1,5 +1,6 @@
 // The responder as C calls it: slices are a pointer and a length, the state is eight words, and a result is number · 65,536 +
 // answer length. Nothing is asked of a caller but lent memory: every length is tested.
+use image::Index;
 use image::Verdict;
 use rules::Awaited;
 use rules::Negotiated;
@@ -28,6 +29,7 @@ ghost use Rattle.rules.specs.declared.Finish.{Finish};
 ghost use Rattle.spdm_responder.specs.Words.{noState, stateIn, wordsAfter, resultOf, Fits, readReply, chipOk};
 ghost use Rattle.spdm_responder.specs.Calls.{Asked, Signed};
 ghost use Rattle.spdm_responder.specs.ToSign.{showReply, partsOf, Shown};
+ghost use Rattle.spdm_responder.specs.ImageAlgorithms.{verdictReply, algorithmsIn, AlgorithmsTold};
 
 // The C interface's own sizes; those of the paper are rules'.
 const STATE_WORDS: usize = 8;
@@ -35,6 +37,8 @@ const STATE_WORDS: usize = 8;
 const PREFIX_LENGTH: usize = 100;
 
 const PART_WORDS: usize = 4;
+
+const ALGORITHMS_WORDS: usize = 7;
 
 const NUMBER_UNIT: u32 = 65536;
 
@@ -249,5 +253,52 @@ pub extern "C" fn spdm_read_image(image: &[u8]) -> u32
     match verdict {
         Verdict::Refused(n) => result_of(Reply::Number(n as u32)),
         Verdict::Accepted => result_of(Reply::Answer(0)),
+    }
+}
+
+// The image's number, or 11 where there is no room for the words.
+fn decide_algorithms(verdict: Verdict, room: usize) -> Reply
+    ensures { λ r. ⌜ r ≡ verdictReply verdict room ⌝ }
+{
+    match verdict {
+        Verdict::Refused(n) => Reply::Number(n as u32),
+        Verdict::Accepted => {
+            if room < ALGORITHMS_WORDS {
+                return Reply::Number(SHORT_ANSWER);
+            }
+            Reply::Answer(0)
+        }
+    }
+}
+
+fn write_algorithms(ix: Index, out: &mut [u32])
+    requires { ⌜ 7 ≤ length (now out) ⌝ }
+    ensures { λ _. ⌜ now (out .exit) ≡ splice (now (out .entry)) 0 (algorithmsIn ix) ⌝ }
+{
+    let id = ix.identity;
+    out[0] = id.exponent as u32;
+    out[1] = id.hash as u32;
+    out[2] = image::digest_size(id.hash) as u32;
+    out[3] = id.signature as u32;
+    out[4] = image::signature_size(id.signature) as u32;
+    out[5] = image_lookup::slot_mask(ix) as u32;
+    out[6] = ix.measurements as u32;
+}
+
+// What an image says of its algorithms, slots and measurements.
+#[no_mangle]
+pub extern "C" fn spdm_image_algorithms(image: &[u8], algorithms: &mut [u32]) -> u32
+    ensures { λ r. ⌜ AlgorithmsTold (reading (now (image .entry))) (now (algorithms .entry)) (now (algorithms .exit)) r ⌝ }
+{
+    let read = image_reader::read_image(image);
+    let verdict = read.verdict;
+    let index = read.index;
+    let told = decide_algorithms(verdict, algorithms.len());
+    match told {
+        Reply::Number(_) => result_of(told),
+        Reply::Answer(_) => {
+            write_algorithms(index, algorithms);
+            result_of(told)
+        }
     }
 }

@@ -10,3 +10,4 @@ pub mod Portions
 pub mod Serving
 pub mod Served
 pub mod Reading
+pub mod RequesterMet

@@ -1,0 +1,77 @@
+-- The C interface's own definitions, computed: which word is which, how number and length share a result, which number comes first, and
+-- what is told of an image. Assumes nothing.
+use mathlib.Core.Path.{_≡_, refl}
+use mathlib.Core.Bool.{true, false}
+use mathlib.Core.List.{List, [], _∷_, map}
+use Prim.Native.Nat.{ℕ}
+use lib.ListN.{replicate}
+use lib.Dec.{ltb, eqb}
+use Rattle.wire.specs.Pick.{pick}
+use Rattle.image.specs.Sizes.{digestSize, signatureSize}
+use Rattle.image.specs.Contents.{Contents, recordBytes, recordsBytes, identityBytes, imageBytes}
+use Rattle.image.specs.Reading.{unless, framesOf, identityFault, slotWrong, chainFault, measurementFault, summaryFault, recordFault}
+use Rattle.image.specs.Reading.{endFault, extended, readOn, readAll, reading, number}
+use Rattle.image.specs.Held.{maskOf}
+use Rattle.rules.specs.State.{holdsOnly, phaseFits, selectionFits, awaitedFits, ownBounds}
+use Rattle.rules.specs.declared.State.{State}
+use Rattle.rules.specs.declared.Reply.{Reply}
+use Rattle.rules.specs.declared.Reply.the-variants as reply
+use Rattle.spdm_responder.specs.Words.{stateIn, wordsAfter, noState, resultOf, chipOk}
+use Rattle.spdm_responder.specs.ToSign.{showReply, partsOf}
+use Rattle.spdm_responder.specs.ImageAlgorithms.{algorithmsReply, algorithmsTold}
+
+-- the header's words: phase, peer, selection, A, B, M, awaited, answer
+abbrev words : List ℕ
+words = 3 ∷ 4608 ∷ 1 ∷ 88 ∷ 40 ∷ 50 ∷ 2 ∷ 200 ∷ []
+
+abbrev held : State
+held = record {
+  negotiated = record { phase = 3; peer = 4608; selection = 1 };
+  used = record { a = 88; b = 40; m = 50 };
+  awaited = record { whose = 2; length = 200 };
+}
+
+pub which-word : (stateIn words ≡ held) × ((wordsAfter words held ≡ words) × (stateIn (replicate 7 0) ≡ noState))
+unfolding stateIn wordsAfter pick
+which-word = (refl, (refl, refl))
+
+-- "number · 65,536 + answer length"
+pub one-word : map resultOf (reply.Number 1 ∷ reply.Number 16 ∷ reply.Answer 4608 ∷ []) ≡ 0x10000 ∷ 0x100000 ∷ 0x1200 ∷ []
+one-word = refl
+
+pub chip-words : map chipOk (0 ∷ 1 ∷ 2 ∷ []) ≡ false ∷ true ∷ true ∷ []
+unfolding pick
+chip-words = refl
+
+-- spdm_to_sign: 11 for prefix and for parts, before 14, before 15; else the prefix's length
+pub shows-in-order : (showReply noState 99 4 ≡ reply.Number 11) × ((showReply noState 100 3 ≡ reply.Number 11)
+    × ((showReply noState 100 4 ≡ reply.Number 14) × ((showReply (stateIn (replicate 8 0)) 100 4 ≡ reply.Number 15)
+    × (showReply held 100 4 ≡ reply.Answer 100))))
+unfolding showReply stateIn holdsOnly phaseFits selectionFits awaitedFits ownBounds pick
+shows-in-order = (refl, (refl, (refl, (refl, refl))))
+
+-- offset and length: A at 0, B at 512, M at 8,704
+pub parts-stand : (partsOf held ≡ 0 ∷ 88 ∷ 8704 ∷ 50 ∷ [])
+    × (partsOf (stateIn (3 ∷ 4608 ∷ 1 ∷ 88 ∷ 40 ∷ 50 ∷ 1 ∷ 200 ∷ [])) ≡ 0 ∷ 88 ∷ 512 ∷ 40 ∷ [])
+unfolding partsOf stateIn pick
+parts-stand = (refl, refl)
+
+-- CTExponent 20, SHA-384, ECDSA-P384, slots 0 and 3, two measurements
+abbrev image : Contents
+image = record {
+  identity = record { exponent = 20; hash = 1; signature = 7 };
+  chains = record { slot = 0; digest = replicate 48 1; bytes = 60 ∷ replicate 59 0 }
+      ∷ record { slot = 3; digest = replicate 48 2; bytes = 70 ∷ replicate 69 0 }
+      ∷ [];
+  measurements = record { index = 1; type = 0; digest = replicate 48 3 } ∷ record { index = 9; type = 2; digest = replicate 48 4 } ∷ [];
+  summaries = record { tcb = replicate 48 5; all = replicate 48 6 } ∷ [];
+}
+
+-- seven words or 11, behind the image's number
+pub tells-image : (algorithmsTold (reading (imageBytes image)) 7 ≡ 20 ∷ 1 ∷ 48 ∷ 7 ∷ 96 ∷ 9 ∷ 2 ∷ [])
+    × ((algorithmsReply (reading (imageBytes image)) 7 ≡ reply.Answer 0)
+    × ((algorithmsReply (reading (imageBytes image)) 6 ≡ reply.Number 11)
+    × ((algorithmsTold (reading (imageBytes image)) 6 ≡ []) × (algorithmsReply (number 2) 6 ≡ reply.Number 2))))
+unfolding digestSize signatureSize recordBytes recordsBytes identityBytes imageBytes unless framesOf identityFault slotWrong chainFault
+    measurementFault summaryFault recordFault endFault extended readOn readAll reading maskOf algorithmsReply algorithmsTold pick
+tells-image = (refl, (refl, (refl, (refl, refl))))
