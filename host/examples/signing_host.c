@@ -1,6 +1,6 @@
 // A host that signs, written from docs/HOST.md: signing_host IMAGE KEY.pem
 // Each line of standard input is a request in hex, each line of standard output its answer.
-// For images with an ECDSA signature; KEY.pem is the key of the chains' leaves, which a box has in its chip.
+// For images with an ECDSA signature; KEY.pem is the leaves' key, in a box the chip's. Of it only the size is tested.
 #define _POSIX_C_SOURCE 200809L // getline
 #include "spdm_responder.h"
 
@@ -11,7 +11,6 @@
 #include <openssl/rand.h>
 #include <stdbool.h>
 #include <stdio.h>
-#include <stdlib.h>
 #include <string.h>
 
 static uint8_t image[SPDM_IMAGE_MAX + 1]; // one byte more, so that too long an image is seen to be
@@ -19,6 +18,7 @@ static size_t image_len;
 static uint32_t algorithms[SPDM_ALGORITHMS_WORDS];
 static const EVP_MD *hash;
 static EVP_PKEY *key;
+static uint32_t number; // the library's, where one was given
 
 // One connection. An answer is finished before the next request is read, so one buffer is enough.
 static uint32_t state[SPDM_STATE_WORDS];
@@ -83,14 +83,15 @@ static const char *start(const char *image_path, const char *key_path)
 {
     static const char *const hashes[] = {"SHA256", "SHA384", "SHA512", "SHA3-256", "SHA3-384", "SHA3-512"};
     FILE *file = fopen(image_path, "rb");
-    image_len = file ? fread(image, 1, sizeof image, file) : 0;
-    if (file)
-        fclose(file);
+    if (!file)
+        return "the image cannot be read";
+    image_len = fread(image, 1, sizeof image, file);
+    fclose(file);
     BIO *pem = BIO_new_file(key_path, "r");
     key = pem ? PEM_read_bio_PrivateKey(pem, NULL, NULL, NULL) : NULL;
     BIO_free(pem);
-    if (SPDM_NUMBER(spdm_image_algorithms(image, image_len, algorithms, SPDM_ALGORITHMS_WORDS)) != 0)
-        return "the image is refused (bench/image-info says why)";
+    if ((number = SPDM_NUMBER(spdm_image_algorithms(image, image_len, algorithms, SPDM_ALGORITHMS_WORDS))) != 0)
+        return "the image is refused";
     hash = EVP_get_digestbyname(hashes[algorithms[SPDM_ALGORITHMS_HASH]]);
     const int half = (int)algorithms[SPDM_ALGORITHMS_SIGNATURE_SIZE] / 2;
     const bool fits = key && EVP_PKEY_id(key) == EVP_PKEY_EC && (EVP_PKEY_bits(key) + 7) / 8 == half;
@@ -99,21 +100,20 @@ static const char *start(const char *image_path, const char *key_path)
 
 int main(int count, char **words)
 {
-    char *line = NULL;
-    size_t room = 0;
+    static char *line;
+    static size_t room;
     const char *wrong = count == 3 ? start(words[1], words[2]) : "usage: signing_host IMAGE KEY.pem <REQUESTS";
     while (!wrong && getline(&line, &room, stdin) > 0) {
         long length = 0;
-        line[strcspn(line, "\n")] = '\0';
-        uint8_t *request = OPENSSL_hexstr2buf(line, &length);
+        line[strcspn(line, "\r\n")] = '\0';
+        uint8_t *request = line[0] ? OPENSSL_hexstr2buf(line, &length) : OPENSSL_zalloc(1); // no byte: a request too
         const uint32_t r = request ? respond(request, (size_t)length) : 0;
-        if (!request || SPDM_NUMBER(r) != 0)
-            wrong = request ? "the library gave a number: this host's mistake" : "a line that is no bytes in hex";
+        if (!request || (number = SPDM_NUMBER(r)) != 0)
+            wrong = request ? "a call was refused (13: no random bytes)" : "a line that is no bytes in hex";
         for (uint32_t i = 0; i < SPDM_LENGTH(r); i++)
             printf("%02x%s", answer[i], i + 1 < SPDM_LENGTH(r) ? "" : "\n");
         fflush(stdout);
         OPENSSL_free(request);
     }
-    free(line);
-    return wrong ? fprintf(stderr, "signing_host: %s\n", wrong), 1 : 0;
+    return wrong ? fprintf(stderr, "signing_host: %s, number %u\n", wrong, (unsigned)number), 1 : ferror(stdin) != 0;
 }

@@ -131,7 +131,9 @@ boundFlows =
     -- and all of them met
     ++ (map (within second)
     (fresh ∷ versioned ∷ idle (agree 2 42 0) (uses 52 0 0) ∷ idle (agree 3 42 0) (uses 0 0 0)
-    ∷ idle (agree 3 42 1) (uses 512 8192 7680) ∷ [])
+    ∷ idle (agree 3 42 1) (uses 512 8192 7680)
+    -- not bounded: a peer's size before there is one, and the length of an answer that nobody awaits
+    ∷ idle (agree 0 7 0) (uses 0 0 0) ∷ idle (agree 1 7 0) (uses 12 0 0) ∷ waits (agree 3 42 0) (uses 0 0 0) 0 7 ∷ [])
     -- ".. and only if the image has a kind 3"
     ++ (outside third (idle (agree 3 42 1) (uses 120 0 0)) ∷ within third (idle (agree 3 42 0) (uses 120 0 0)) ∷ []))))))
 
@@ -161,7 +163,7 @@ long = replicate 4609 0xFF
 abbrev pub unserved : List ℕ
 unserved = 0x80 ∷ 0x85 ∷ 0xDF ∷ 0xE2 ∷ 0xE4 ∷ 0xFF ∷ []
 
--- "A request, checked in this order": steps 1 to 7, where each request has a fault of a later step too
+-- "A request, checked in this order": steps 1 to 7, most of them with a fault of a later step too
 abbrev pub stepFlows : List Claim
 stepFlows =
     -- 1: "under 4 bytes"; 2: "over 4,608 bytes"; "Version is 0x10 in phases 0 and 1, else 0x12"

@@ -1,61 +1,51 @@
 -- What is told of an image by the reader's verdict and index is what is told by the contents that the image reads as: a
 -- number and no word, or seven words, for which there is room. Assumes nothing.
 use mathlib.Core.Path.{_≡_, refl, sym, ap, _∙_, subst}
-use mathlib.Core.Bool.{Bool, true, false}
 use mathlib.Core.List.{List, []}
 use Prim.Native.Nat.{ℕ, _≤_}
 use native.Mathlib.Omega.{arith}
 use lib.ListN.{length}
-use lib.Dec.{ltb}
 use borrow.Author.Tests.{ltb-false}
 use Rattle.wire.specs.Bytes.{Bytes, splice}
-use Rattle.wire.specs.Pick.{pick}
 use Rattle.wire.proofs.Picks.{pick-case, not-first}
 use Rattle.image.specs.Contents.{Contents}
 use Rattle.image.specs.Reading.{Result, number, found, reading}
 use Rattle.image.specs.Index.{answerOf}
 use Rattle.image.specs.declared.Image.{Image}
 use Rattle.image.proofs.Found.{mask-is}
-use Rattle.rules.specs.Limits.{shortAnswer}
 use Rattle.rules.specs.declared.Reply.{Reply}
 use Rattle.rules.specs.declared.Reply.the-variants as reply
 use Rattle.spdm_responder.specs.Words.{resultOf, Fits}
-use Rattle.spdm_responder.specs.ImageAlgorithms.{algorithmsWords, algorithmsOf, algorithmsReply, verdictReply}
+use Rattle.spdm_responder.specs.ImageAlgorithms.{algorithmsWords, roomReply, algorithmsReply, verdictReply}
 use Rattle.spdm_responder.specs.ImageAlgorithms.{algorithmsIn, algorithmsTold, AlgorithmsTold}
 use Rattle.spdm_responder.proofs.Numbers.{FewRead, few-read}
-
--- an answer is no number
-never : {k n : ℕ} → reply.Number k ≡ reply.Answer n → ⊥
-never z = let w : _≡_ {A = ℕ} 0 1 = cc in omega arith
+use Rattle.spdm_responder.proofs.Replies.{no-number}
 
 by-verdict : (x : Result Contents) (room : ℕ) → verdictReply (answerOf x .verdict) room ≡ algorithmsReply x room
-unfolding verdictReply algorithmsReply answerOf
+unfolding answerOf
 by-verdict (number k) room = refl
 by-verdict (found c) room = refl
 
 fits : (x : Result Contents) → FewRead x → (room : ℕ) → Fits (algorithmsReply x room)
-unfolding algorithmsReply
+unfolding roomReply
 fits (number k) h room = omega arith
 fits (found c) h room = pick-case Fits _ _ _ (λ _. omega arith) (λ _. omega arith)
 
 no-word : (x : Result Contents) (room n : ℕ) → algorithmsReply x room ≡ reply.Number n → algorithmsTold x room ≡ []
-unfolding algorithmsReply algorithmsTold pick
 no-word (number k) room n g = refl
-no-word (found c) room n g = by (ltb room algorithmsWords) g
-  where
-    by : (t : Bool) → pick t (reply.Number shortAnswer) (reply.Answer 0) ≡ reply.Number n → pick t [] (algorithmsOf c) ≡ []
-    by true e = refl
-    by false e = absurd (never (sym e))
+no-word (found c) room n g = rw g
+
+roomy : (room n : ℕ) → roomReply room ≡ reply.Answer n → algorithmsWords ≤ room
+unfolding roomReply
+roomy room n g = ltb-false _ _ (not-first _ _ _ _ g (λ z. no-number z) .0)
 
 -- no number: there is room, and the words are those of the contents
 words : (b : List ℕ) → Bytes b → (x : Result Contents) → reading b ≡ x
     → (room n : ℕ) → algorithmsReply x room ≡ reply.Answer n
     → (algorithmsWords ≤ room) × (algorithmsIn (answerOf x .index) ≡ algorithmsTold x room)
-unfolding algorithmsReply algorithmsTold answerOf pick
-words b y (number k) e room n g = absurd (never g)
-words b y (found c) e room n g =
-    let t = not-first _ _ _ _ g (λ z. never z) .0 in
-    (ltb-false _ _ t, rw (t, mask-is y (record { read = e; indexed = refl })))
+unfolding answerOf
+words b y (number k) e room n g = absurd (no-number g)
+words b y (found c) e room n g = (roomy room n g, rw (g, mask-is y (record { read = e; indexed = refl })))
 
 -- the reply that was decided by the reader's answer i to an image b, with out lent for the words
 module _ (b : List ℕ) {i : Image} (e : i ≡ answerOf (reading b)) (out : List ℕ)

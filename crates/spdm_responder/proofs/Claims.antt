@@ -10,51 +10,15 @@ use Rattle.wire.specs.Pick.{pick}
 use Rattle.image.specs.Sizes.{digestSize, signatureSize}
 use Rattle.image.specs.Contents.{Contents, recordBytes, recordsBytes, identityBytes, imageBytes}
 use Rattle.image.specs.Reading.{unless, framesOf, identityFault, slotWrong, chainFault, measurementFault, summaryFault, recordFault}
-use Rattle.image.specs.Reading.{endFault, extended, readOn, readAll, reading, number}
+use Rattle.image.specs.Reading.{endFault, extended, readOn, readAll, reading, number, found}
 use Rattle.image.specs.Held.{maskOf}
 use Rattle.rules.specs.State.{holdsOnly, phaseFits, selectionFits, awaitedFits, ownBounds}
 use Rattle.rules.specs.declared.State.{State}
 use Rattle.rules.specs.declared.Reply.{Reply}
 use Rattle.rules.specs.declared.Reply.the-variants as reply
-use Rattle.spdm_responder.specs.Words.{stateIn, wordsAfter, noState, resultOf, chipOk}
-use Rattle.spdm_responder.specs.ToSign.{showReply, partsOf}
-use Rattle.spdm_responder.specs.ImageAlgorithms.{algorithmsReply, algorithmsTold}
-
--- the header's words: phase, peer, selection, A, B, M, awaited, answer
-abbrev words : List ℕ
-words = 3 ∷ 4608 ∷ 1 ∷ 88 ∷ 40 ∷ 50 ∷ 2 ∷ 200 ∷ []
-
-abbrev held : State
-held = record {
-  negotiated = record { phase = 3; peer = 4608; selection = 1 };
-  used = record { a = 88; b = 40; m = 50 };
-  awaited = record { whose = 2; length = 200 };
-}
-
-pub which-word : (stateIn words ≡ held) × ((wordsAfter words held ≡ words) × (stateIn (replicate 7 0) ≡ noState))
-unfolding stateIn wordsAfter pick
-which-word = (refl, (refl, refl))
-
--- "number · 65,536 + answer length"
-pub one-word : map resultOf (reply.Number 1 ∷ reply.Number 16 ∷ reply.Answer 4608 ∷ []) ≡ 0x10000 ∷ 0x100000 ∷ 0x1200 ∷ []
-one-word = refl
-
-pub chip-words : map chipOk (0 ∷ 1 ∷ 2 ∷ []) ≡ false ∷ true ∷ true ∷ []
-unfolding pick
-chip-words = refl
-
--- spdm_to_sign: 11 for prefix and for parts, before 14, before 15; else the prefix's length
-pub shows-in-order : (showReply noState 99 4 ≡ reply.Number 11) × ((showReply noState 100 3 ≡ reply.Number 11)
-    × ((showReply noState 100 4 ≡ reply.Number 14) × ((showReply (stateIn (replicate 8 0)) 100 4 ≡ reply.Number 15)
-    × (showReply held 100 4 ≡ reply.Answer 100))))
-unfolding showReply stateIn holdsOnly phaseFits selectionFits awaitedFits ownBounds pick
-shows-in-order = (refl, (refl, (refl, (refl, refl))))
-
--- offset and length: A at 0, B at 512, M at 8,704
-pub parts-stand : (partsOf held ≡ 0 ∷ 88 ∷ 8704 ∷ 50 ∷ [])
-    × (partsOf (stateIn (3 ∷ 4608 ∷ 1 ∷ 88 ∷ 40 ∷ 50 ∷ 1 ∷ 200 ∷ [])) ≡ 0 ∷ 88 ∷ 512 ∷ 40 ∷ [])
-unfolding partsOf stateIn pick
-parts-stand = (refl, refl)
+use Rattle.spdm_responder.specs.Words.{stateIn, wordsAfter, noState, resultOf, readReply, chipOk}
+use Rattle.spdm_responder.specs.ToSign.{showReply, partsOf, shownPrefix, shownParts}
+use Rattle.spdm_responder.specs.ImageAlgorithms.{roomReply, algorithmsReply, algorithmsTold}
 
 -- CTExponent 20, SHA-384, ECDSA-P384, slots 0 and 3, two measurements
 abbrev image : Contents
@@ -67,11 +31,63 @@ image = record {
   summaries = record { tcb = replicate 48 5; all = replicate 48 6 } ∷ [];
 }
 
+-- the header's words: phase, peer, selection, A, B, M, awaited, answer
+abbrev words : List ℕ
+words = 3 ∷ 4608 ∷ 1 ∷ 88 ∷ 40 ∷ 50 ∷ 2 ∷ 200 ∷ []
+
+abbrev held : State
+held = record {
+  negotiated = record { phase = 3; peer = 4608; selection = 1 };
+  used = record { a = 88; b = 40; m = 50 };
+  awaited = record { whose = 2; length = 200 };
+}
+
+pub which-word : (stateIn words ≡ held) × (wordsAfter (replicate 8 5) held ≡ words)
+unfolding stateIn wordsAfter pick
+which-word = (refl, refl)
+
+-- any other number of words holds no state, and stays as it is
+pub other-count : (map stateIn (replicate 7 0 ∷ replicate 9 0 ∷ []) ≡ noState ∷ noState ∷ [])
+    × ((wordsAfter (replicate 7 5) held ≡ replicate 7 5) × (wordsAfter (replicate 9 5) held ≡ replicate 9 5))
+unfolding stateIn wordsAfter pick
+other-count = (refl, (refl, refl))
+
+-- "number · 65,536 + answer length"
+pub one-word : map resultOf (reply.Number 1 ∷ reply.Number 16 ∷ reply.Answer 4608 ∷ []) ≡ 0x10000 ∷ 0x100000 ∷ 0x1200 ∷ []
+one-word = refl
+
+-- spdm_read_image: the number, or 0
+pub read-word : (resultOf (readReply (number 8)) ≡ 0x80000) × (resultOf (readReply (found image)) ≡ 0)
+read-word = (refl, refl)
+
+pub chip-words : map chipOk (0 ∷ 1 ∷ 2 ∷ 0xFFFFFFFF ∷ []) ≡ false ∷ true ∷ true ∷ true ∷ []
+unfolding pick
+chip-words = refl
+
+-- spdm_to_sign: 11 for prefix and for parts, before 14, before 15; else the prefix's length
+pub shows-in-order : (showReply noState 99 4 ≡ reply.Number 11) × ((showReply noState 100 3 ≡ reply.Number 11)
+    × ((showReply noState 100 4 ≡ reply.Number 14) × ((showReply (stateIn (replicate 8 0)) 100 4 ≡ reply.Number 15)
+    × ((showReply held 100 4 ≡ reply.Answer 100) × (showReply held 101 5 ≡ reply.Answer 100)))))
+unfolding showReply stateIn holdsOnly phaseFits selectionFits awaitedFits ownBounds pick
+shows-in-order = (refl, (refl, (refl, (refl, (refl, refl)))))
+
+-- with a number neither buffer is written
+pub shows-nothing : (shownPrefix (reply.Number 11) held ≡ []) × (shownParts (reply.Number 11) held ≡ [])
+shows-nothing = (refl, refl)
+
+-- offset and length: A at 0, B at 512, M at 8,704
+pub parts-stand : (partsOf held ≡ 0 ∷ 88 ∷ 8704 ∷ 50 ∷ [])
+    × (partsOf (stateIn (3 ∷ 4608 ∷ 1 ∷ 88 ∷ 40 ∷ 50 ∷ 1 ∷ 200 ∷ [])) ≡ 0 ∷ 88 ∷ 512 ∷ 40 ∷ [])
+unfolding partsOf stateIn pick
+parts-stand = (refl, refl)
+
 -- seven words or 11, behind the image's number
 pub tells-image : (algorithmsTold (reading (imageBytes image)) 7 ≡ 20 ∷ 1 ∷ 48 ∷ 7 ∷ 96 ∷ 9 ∷ 2 ∷ [])
     × ((algorithmsReply (reading (imageBytes image)) 7 ≡ reply.Answer 0)
     × ((algorithmsReply (reading (imageBytes image)) 6 ≡ reply.Number 11)
-    × ((algorithmsTold (reading (imageBytes image)) 6 ≡ []) × (algorithmsReply (number 2) 6 ≡ reply.Number 2))))
+    × ((algorithmsTold (reading (imageBytes image)) 8 ≡ 20 ∷ 1 ∷ 48 ∷ 7 ∷ 96 ∷ 9 ∷ 2 ∷ [])
+    × ((algorithmsTold (reading (imageBytes image)) 6 ≡ [])
+    × ((algorithmsTold (number 2) 7 ≡ []) × (algorithmsReply (number 2) 6 ≡ reply.Number 2))))))
 unfolding digestSize signatureSize recordBytes recordsBytes identityBytes imageBytes unless framesOf identityFault slotWrong chainFault
-    measurementFault summaryFault recordFault endFault extended readOn readAll reading maskOf algorithmsReply algorithmsTold pick
-tells-image = (refl, (refl, (refl, (refl, refl))))
+    measurementFault summaryFault recordFault endFault extended readOn readAll reading maskOf roomReply pick
+tells-image = (refl, (refl, (refl, (refl, (refl, (refl, refl))))))

@@ -91,15 +91,16 @@ shown-fits s prefix parts =
     pick-case Fits _ _ _ (λ _. omega arith) (λ _. pick-case Fits _ _ _ (λ _. omega arith)
     (λ _. pick-case Fits _ _ _ (λ _. pick-case Fits _ _ _ (λ _. omega arith) (λ _. omega arith)) (λ _. omega arith)))
 
+-- an answer is no number
+pub no-number : {k n : ℕ} → reply.Number k ≡ reply.Answer n → ⊥
+no-number z = let w : _≡_ {A = ℕ} 0 1 = cc in omega arith
+
 roomy : (s : State) (prefix parts n : ℕ) → showReply s prefix parts ≡ reply.Answer n → partWords ≤ parts
 unfolding showReply
 roomy s prefix parts n e =
-    let a = not-first _ _ _ _ e (λ z. never z) in
-    let b = not-first _ _ _ _ (a .1) (λ z. never z) in
+    let a = not-first _ _ _ _ e (λ z. no-number z) in
+    let b = not-first _ _ _ _ (a .1) (λ z. no-number z) in
     ltb-false _ _ (b .0)
-  where
-    never : {k : ℕ} → reply.Number k ≡ reply.Answer n → ⊥
-    never z = let w : _≡_ {A = ℕ} 0 1 = cc in omega arith
 
 module _ (s : State) (prefix parts : ℕ) {y : Reply} (e : y ≡ showReply s prefix parts) where
   pub fits-shown : Fits y

@@ -34,17 +34,35 @@ algorithmsOf c =
     ∷ length (c .measurements)
     ∷ []
 
+-- fewer words than that are 11
+unfoldable pub roomReply : ℕ → Reply
+roomReply room = pick (ltb room algorithmsWords) (reply.Number shortAnswer) (reply.Answer 0)
+
 -- the image's number, then 11; else no number
-unfoldable pub algorithmsReply : Result Contents → ℕ → Reply
+abbrev pub algorithmsReply : Result Contents → ℕ → Reply
 algorithmsReply (number k) room = reply.Number k
-algorithmsReply (found c) room = pick (ltb room algorithmsWords) (reply.Number shortAnswer) (reply.Answer 0)
+algorithmsReply (found c) room = roomReply room
 
--- the same by the reader's verdict
-unfoldable pub verdictReply : Verdict → ℕ → Reply
+-- what is written: nothing with a number
+abbrev pub toldBy : Reply → Contents → List ℕ
+toldBy (reply.Number n) c = []
+toldBy (reply.Answer n) c = algorithmsOf c
+
+abbrev pub algorithmsTold : Result Contents → ℕ → List ℕ
+algorithmsTold (number k) room = []
+algorithmsTold (found c) room = toldBy (roomReply room) c
+
+-- out and out′ are the words as they were lent and as they are returned
+pub record AlgorithmsTold (x : Result Contents) (out out′ : List ℕ) (r : ℕ) : Type 0 where
+  pub result : r ≡ resultOf (algorithmsReply x (length out))
+  pub words : out′ ≡ splice out 0 (algorithmsTold x (length out))
+
+-- The code's view of the same, by the reader's verdict and index; no promise of a public function rests on it.
+
+abbrev pub verdictReply : Verdict → ℕ → Reply
 verdictReply (verdict.Refused k) room = reply.Number k
-verdictReply verdict.Accepted room = pick (ltb room algorithmsWords) (reply.Number shortAnswer) (reply.Answer 0)
+verdictReply verdict.Accepted room = roomReply room
 
--- and by its index
 abbrev pub algorithmsIn : Index → List ℕ
 algorithmsIn ix =
     ix .identity .exponent
@@ -53,13 +71,3 @@ algorithmsIn ix =
     ∷ maskAt ix
     ∷ ix .measurements
     ∷ []
-
--- what is written: nothing with a number
-unfoldable pub algorithmsTold : Result Contents → ℕ → List ℕ
-algorithmsTold (number k) room = []
-algorithmsTold (found c) room = pick (ltb room algorithmsWords) [] (algorithmsOf c)
-
--- out and out′ are the words as they were lent and as they are returned
-pub record AlgorithmsTold (x : Result Contents) (out out′ : List ℕ) (r : ℕ) : Type 0 where
-  pub result : r ≡ resultOf (algorithmsReply x (length out))
-  pub words : out′ ≡ splice out 0 (algorithmsTold x (length out))
