@@ -35,7 +35,7 @@ struct driver *the_driver(void)
 static void put_state(const char *name, const struct world *world)
 {
     fprintf(stderr, "  %s: state", name);
-    for (size_t i = 0; i < 8; i++)
+    for (size_t i = 0; i < STATE_WORDS; i++)
         fprintf(stderr, " %u", world->state[i]);
     fprintf(stderr, "\n    answer");
     for (size_t i = 0; i < 16; i++)
@@ -192,10 +192,12 @@ static void demand_unchanged(const struct driver *driver, const char *what)
     demand_left(driver, driver->before.state, what);
 }
 
-// A GET_MEASUREMENTS refused at step 7, 8 or 9, which the ERROR's code tells, since it has a header.
+// A GET_MEASUREMENTS refused at step 7, 8 or 9, which the ERROR's code tells: it has a header and is not over-long.
 static bool empties_m(const struct world *before, uint8_t code)
 {
-    return before->request_length >= 4 && before->request[1] == 0xE0 && (code == 0x01 || code == 0x0D || code == 0x05);
+    const size_t length = before->request_length;
+    return length >= 4 && length <= 4608 && before->request[1] == 0xE0
+        && (code == 0x01 || code == 0x0D || code == 0x05);
 }
 
 static void demand_refusal(const struct driver *driver)
@@ -207,8 +209,14 @@ static void demand_refusal(const struct driver *driver)
     demand_left(driver, left, "after a refusal the state or the transcript is not what it leaves");
 }
 
+// The version byte of what is answered: a refusal leaves it, an accepted request has that of the state that it makes.
+static uint8_t version_byte(const uint32_t *state)
+{
+    return state[SPDM_STATE_PHASE] < 2 ? 0x10 : (uint8_t)state[SPDM_STATE_EDITION];
+}
+
 // Demand 1, without any model: a number changes nothing, an ERROR only its own bytes and M's count, an answer only its
-// own.
+// own. Finishing's ERROR has 4 bytes, and no other answer of it so few.
 static void demand_rules(struct driver *driver, uint32_t result, bool finishing)
 {
     const struct world *now = &driver->world, *before = &driver->before;
@@ -224,6 +232,9 @@ static void demand_rules(struct driver *driver, uint32_t result, bool finishing)
     demand(driver, length >= 4 && length <= 4608 && length <= before->answer_length, "answer length out of range");
     demand(driver, finishing || same_rest(now->answer, before->answer, length, ANSWER_ROOM),
         "a byte past the answer changed");
+    demand(driver, (finishing && length > 4) || now->answer[0] == version_byte(now->state), "a wrong version byte");
+    if (now->state[SPDM_STATE_EDITION] == SPDM_EDITION_1_1)
+        driver->counts.older++;
     if (!finishing && now->answer[1] == 0x7F) {
         demand_refusal(driver);
         driver->counts.errors++;
@@ -249,6 +260,16 @@ static void demand_plain(const struct driver *driver, uint32_t result, uint32_t 
     demand(driver, memcmp(now->parts, plain->parts, sizeof now->parts) == 0, "the parts are not the plain responder's");
     demand(driver, memcmp(now->algorithms, plain->algorithms, sizeof now->algorithms) == 0,
         "the algorithms are not the plain responder's");
+}
+
+// Of the prefix 100 bytes are written, or none under 1.1.
+static void demand_prefix(const struct driver *driver, uint32_t result)
+{
+    const struct world *now = &driver->world, *before = &driver->before;
+    const bool shown = SPDM_NUMBER(result) == 0 && before->state[SPDM_STATE_EDITION] != SPDM_EDITION_1_1;
+    demand(driver, SPDM_LENGTH(result) == (shown ? SPDM_PREFIX_LEN : 0), "the length is not the prefix's");
+    demand(driver, same_rest(now->prefix, before->prefix, SPDM_LENGTH(result), SMALL_ROOM),
+        "a byte past the prefix changed");
 }
 
 static void start_call(struct driver *driver)
@@ -288,6 +309,7 @@ void call_to_sign(struct driver *driver, unsigned places)
     start_call(driver);
     const uint32_t result = library_to_sign(driver, places);
     demand_unchanged(driver, "spdm_to_sign changed the state");
+    demand_prefix(driver, result);
     demand_plain(driver, result, plain_to_sign(plain->state, plain->words, plain->prefix, plain->prefix_length,
         plain->parts, plain->parts_length));
 }

@@ -6,9 +6,9 @@
 #include "inputs.h"
 #include "pen.h"
 
-// Counts of what was met, for the last line of the driver.
+// Counts of what was met, for the last line of the driver; `older` are the answers on connections of 1.1.
 struct counts {
-    unsigned long inputs, calls, numbers, errors, accepted, finished;
+    unsigned long inputs, calls, numbers, errors, accepted, finished, older;
 };
 
 struct pens {

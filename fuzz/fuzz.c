@@ -18,7 +18,7 @@ static void step_request(struct driver *driver, struct feed *feed, unsigned kind
     call_respond(driver, places);
 }
 
-// GET_VERSION, GET_CAPABILITIES and NEGOTIATE_ALGORITHMS, undamaged but for the peer's size.
+// GET_VERSION, GET_CAPABILITIES and NEGOTIATE_ALGORITHMS, undamaged but for the peer's size; of either edition.
 static void step_connect(struct driver *driver, struct feed *feed, unsigned places)
 {
     struct feed none = {NULL, 0};
@@ -41,6 +41,8 @@ static void step_negotiate(struct driver *driver, struct feed *feed, unsigned pl
     write_request(&driver->world, &none, VERSION);
     call_respond(driver, places);
     write_request(&driver->world, &none, CAPABILITIES);
+    if (next(feed) & 1)
+        driver->world.request[0] = EDITION_1_1;
     call_respond(driver, places);
     for (unsigned i = 0; i < 4; i++) {
         write_request(&driver->world, feed, ALGORITHMS);
@@ -94,6 +96,31 @@ static void step_signed(struct driver *driver, struct feed *feed, unsigned place
     step_finish(driver, feed, places);
 }
 
+// A request longer than any message, half of them GET_MEASUREMENTS: it must not empty M.
+static void step_long(struct driver *driver, struct feed *feed, unsigned places)
+{
+    const unsigned chance = next(feed);
+    write_request(&driver->world, feed, chance < 128 ? MEASUREMENTS : chance % (ANY_BYTES + 1));
+    right_lengths(&driver->world);
+    driver->world.request_length = 4609 + next_16(feed) % (REQUEST_ROOM - 4608);
+    call_respond(driver, places);
+}
+
+// Any state, in its bounds or not, looked at by the three calls that test it; then the one before is back.
+static void step_mixed(struct driver *driver, struct feed *feed, unsigned places)
+{
+    struct world *world = &driver->world;
+    uint32_t kept[WORDS_ROOM];
+    memcpy(kept, world->state, sizeof kept);
+    mix_state(world, feed);
+    right_lengths(world);
+    call_to_sign(driver, places);
+    write_request(world, feed, next(feed) % ANY_BYTES);
+    call_respond(driver, places);
+    call_finish(driver, places);
+    memcpy(world->state, kept, sizeof kept);
+}
+
 static void step_to_sign(struct driver *driver, struct feed *feed, unsigned places)
 {
     choose_lengths(&driver->world, feed);
@@ -112,7 +139,7 @@ static void step_image_algorithms(struct driver *driver, struct feed *feed, unsi
 static void step(struct driver *driver, struct feed *feed)
 {
     struct world *world = &driver->world;
-    const unsigned choice = next(feed) % 29, places = next(feed);
+    const unsigned choice = next(feed) % 32, places = next(feed);
     switch (choice) {
     case 8: case 9: step_connect(driver, feed, places); break;
     case 10: case 11: case 12: step_finish(driver, feed, places); break;
@@ -131,6 +158,8 @@ static void step(struct driver *driver, struct feed *feed)
     case 26: damage_image(world, feed); break;
     case 27: memset(world->answer, (int)next(feed), ANSWER_ROOM); break;
     case 28: step_image_algorithms(driver, feed, places); break;
+    case 29: step_long(driver, feed, places); break;
+    case 30: case 31: step_mixed(driver, feed, places); break;
     default: step_request(driver, feed, choice, places);
     }
 }
@@ -140,7 +169,7 @@ static void start_world(struct world *world, struct feed *feed)
     memset(world, 0, sizeof *world);
     memset(world->transcript, (int)next(feed), TRANSCRIPT_ROOM);
     memset(world->answer, (int)next(feed), ANSWER_ROOM);
-    world->words = 8;
+    world->words = STATE_WORDS;
     choose_image(world, feed);
 }
 
@@ -188,9 +217,9 @@ int main(int count, char **words)
     for (unsigned long i = 0; i < inputs; i++)
         run_input(&seed);
     const struct counts *counts = &the_driver()->counts;
-    printf("fuzz: seed %llu, %lu inputs, %lu calls (%lu numbers, %lu ERRORs, %lu accepted, %lu finished), no finding\n",
-        (unsigned long long)start, counts->inputs, counts->calls, counts->numbers, counts->errors, counts->accepted,
-        counts->finished);
+    printf("fuzz: seed %llu, %lu inputs, %lu calls (%lu numbers, %lu ERRORs, %lu accepted, %lu finished; "
+        "%lu answers under 1.1), no finding\n", (unsigned long long)start, counts->inputs, counts->calls,
+        counts->numbers, counts->errors, counts->accepted, counts->finished, counts->older);
     return 0;
 }
 

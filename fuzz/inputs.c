@@ -232,22 +232,31 @@ static void set_request(struct world *world, const uint8_t *run, size_t length)
     world->request_length = length;
 }
 
+// The version byte that the state calls for; before a choice 1.2's.
+static uint8_t spoken(const struct world *world)
+{
+    return world->state[EDITION] == EDITION_1_1 ? EDITION_1_1 : EDITION_1_2;
+}
+
+// Of 1.2, or of 1.1, whose layout has no sizes: they then follow it now and then, as pad bytes.
 static void write_capabilities(struct world *world, struct feed *feed)
 {
     static const uint32_t sizes[] = {
         42, 4608, 41, 134, 133, 166, 4607, 0, 43, 1032, 0xFFFFFFFF, 200, 678, 2826, 64, 1024,
     };
-    uint8_t text[20] = {0x12, 0xE1};
+    const unsigned chance = next(feed);
+    const bool old = chance & 1;
+    uint8_t text[20] = {old ? EDITION_1_1 : EDITION_1_2, 0xE1};
     const uint32_t size = ONE_OF(feed, sizes);
     put_32(text + 12, size);
     put_32(text + 16, next(feed) % 8 == 7 ? next_32(feed) : size);
-    set_request(world, text, sizeof text);
+    set_request(world, text, old && chance < 200 ? 12 : 20);
 }
 
 // An offer with extended entries and structures, mostly as they should be.
 static void write_algorithms(struct world *world, struct feed *feed)
 {
-    uint8_t text[256] = {0x12, 0xE3};
+    uint8_t text[256] = {spoken(world), 0xE3};
     const unsigned shape = next(feed), structures = shape & 7, extended = shape >> 3 & 3;
     size_t at = 32 + 4 * extended;
     text[28] = (uint8_t)(extended / 2);
@@ -270,7 +279,7 @@ static void write_algorithms(struct world *world, struct feed *feed)
 static void write_certificate(struct world *world, struct feed *feed)
 {
     static const uint16_t lengths[] = {34, 1024, 0xFFFF, 1, 0, 1025, 100, 4096};
-    uint8_t text[8] = {0x12, 0x82, (uint8_t)next(feed)};
+    uint8_t text[8] = {spoken(world), 0x82, (uint8_t)next(feed)};
     if (next(feed) % 4)
         text[2] = 0;
     put_16(text + 4, next(feed) % 2 ? 0 : next_16(feed) % 4200);
@@ -280,7 +289,7 @@ static void write_certificate(struct world *world, struct feed *feed)
 
 void write_read(struct world *world, unsigned offset, unsigned length)
 {
-    uint8_t text[8] = {0x12, 0x82};
+    uint8_t text[8] = {spoken(world), 0x82};
     put_16(text + 4, offset);
     put_16(text + 6, length);
     set_request(world, text, sizeof text);
@@ -289,7 +298,7 @@ void write_read(struct world *world, unsigned offset, unsigned length)
 static void write_challenge(struct world *world, struct feed *feed)
 {
     static const uint8_t summaries[] = {0, 1, 0xFF, 2};
-    uint8_t text[36] = {0x12, 0x83};
+    uint8_t text[36] = {spoken(world), 0x83};
     const unsigned slot = next(feed);
     text[2] = slot < 160 ? 0 : (uint8_t)(slot % 10);
     text[3] = ONE_OF(feed, summaries);
@@ -300,7 +309,7 @@ static void write_challenge(struct world *world, struct feed *feed)
 static void write_measurements(struct world *world, struct feed *feed)
 {
     static const uint8_t operations[] = {0, 0xFF, 1, 0xFF, 3, 8, 239, 0xFE};
-    uint8_t text[37] = {0x12, 0xE0};
+    uint8_t text[37] = {spoken(world), 0xE0};
     const unsigned slot = next(feed);
     text[2] = (uint8_t)next(feed);
     text[3] = ONE_OF(feed, operations);
@@ -315,7 +324,7 @@ void write_request(struct world *world, struct feed *feed, unsigned kind)
     case VERSION: set_request(world, (const uint8_t[]){0x10, 0x84, 0, 0}, 4); break;
     case CAPABILITIES: write_capabilities(world, feed); break;
     case ALGORITHMS: write_algorithms(world, feed); break;
-    case DIGESTS: set_request(world, (const uint8_t[]){0x12, 0x81, 0, 0}, 4); break;
+    case DIGESTS: set_request(world, (const uint8_t[]){spoken(world), 0x81, 0, 0}, 4); break;
     case CERTIFICATE: write_certificate(world, feed); break;
     case CHALLENGE: write_challenge(world, feed); break;
     case MEASUREMENTS: write_measurements(world, feed); break;
@@ -334,10 +343,13 @@ static void damage_byte(struct world *world, struct feed *feed)
 void damage_request(struct world *world, struct feed *feed)
 {
     static const uint16_t lengths[] = {4608, 4609, 4607, 8192, 3, 4, 0, 5000};
+    static const uint8_t versions[] = {EDITION_1_1, EDITION_1_2, 0x10, 0x13};
     const unsigned choice = next(feed);
-    if (choice < 150)
+    if (choice < 145)
         return;
-    if (choice < 180 && world->request_length > 0)
+    if (choice < 160)
+        world->request[0] = ONE_OF(feed, versions);
+    else if (choice < 180 && world->request_length > 0)
         damage_byte(world, feed);
     else if (choice < 200)
         world->request_length -= world->request_length > 0;
@@ -375,7 +387,7 @@ void choose_lengths(struct world *world, struct feed *feed)
     const bool odd = next(feed) >= 200;
     struct feed none = {NULL, 0};
     struct feed *from = odd ? feed : &none;
-    world->words = length_near(from, 8, WORDS_ROOM);
+    world->words = length_near(from, STATE_WORDS, WORDS_ROOM);
     world->answer_length = length_near(from, 4608, ANSWER_ROOM);
     world->transcript_length = length_near(from, 16384, TRANSCRIPT_ROOM);
     world->nonce_length = length_near(from, 32, SMALL_ROOM);
@@ -394,10 +406,10 @@ void right_lengths(struct world *world)
 void poke_state(struct world *world, struct feed *feed)
 {
     static const uint32_t values[] = {
-        0, 1, 2, 3, 4, 12, 41, 42, 52, 68, 69, 100, 512, 513, 516, 4608, 4609, 7600, 7680, 7681, 8100, 8192, 8193,
-        0x80000000, 0xFFFFFFFF,
+        0, 1, 2, 3, 4, 14, 16, 17, 18, 19, 38, 41, 42, 54, 68, 69, 100, 512, 513, 516, 4607, 4608, 4609, 7600, 7680,
+        7681, 8100, 8192, 8193, 0x80000000, 0xFFFFFFFF,
     };
-    const unsigned word = next(feed) % 8;
+    const unsigned word = next(feed) % STATE_WORDS;
     world->state[word] = next(feed) % 8 ? ONE_OF(feed, values) : next_32(feed);
 }
 
@@ -406,7 +418,8 @@ void full_state(struct world *world, struct feed *feed)
     static const uint32_t sizes[] = {42, 134, 1024, 4608, 0xFFFFFFFF};
     memset(world->state, 0, sizeof world->state);
     world->state[PHASE] = 3;
-    world->state[PEER] = ONE_OF(feed, sizes);
+    world->state[EDITION] = next(feed) & 1 ? EDITION_1_1 : EDITION_1_2;
+    world->state[PEER] = world->state[EDITION] == EDITION_1_1 ? 4608 : ONE_OF(feed, sizes);
     world->state[SELECTION] = next(feed) & 1;
     world->state[A] = next_16(feed) % 513;
     world->state[B] = 8192 - next(feed) * 8;
@@ -414,6 +427,34 @@ void full_state(struct world *world, struct feed *feed)
     if (next(feed) % 4 == 0) {
         world->state[AWAITED] = 1 + next(feed) % 2;
         world->state[ANSWER] = 4 + next_16(feed) % 4700;
+    }
+}
+
+// What A holds in a phase before the last one.
+static uint32_t a_of(const uint32_t *state)
+{
+    if (state[PHASE] != 2)
+        return state[PHASE] == 1 ? 14 : 0;
+    return state[EDITION] == EDITION_1_1 ? 38 : 54;
+}
+
+void mix_state(struct world *world, struct feed *feed)
+{
+    static const uint32_t editions[] = {0, EDITION_1_1, EDITION_1_2, EDITION_1_1, EDITION_1_2, 0x10, 0x13, 1};
+    static const uint32_t sizes[] = {4608, 42, 4608, 41, 4607, 4609, 0, 0xFFFFFFFF};
+    static const uint32_t counts[] = {0, 12, 14, 38, 52, 54, 120, 512};
+    uint32_t *state = world->state;
+    memset(state, 0, sizeof world->state);
+    state[PHASE] = next(feed) % 4;
+    state[EDITION] = ONE_OF(feed, editions);
+    state[PEER] = ONE_OF(feed, sizes);
+    state[A] = next(feed) % 4 ? a_of(state) : ONE_OF(feed, counts);
+    state[B] = next(feed) % 8 == 7;
+    state[M] = next(feed) % 8 == 7;
+    state[SELECTION] = next(feed) % 8 == 7;
+    if (next(feed) % 4 == 3) {
+        state[AWAITED] = 1 + next(feed) % 2;
+        state[ANSWER] = 600;
     }
 }
 

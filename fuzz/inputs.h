@@ -16,7 +16,10 @@ enum {
 };
 
 // The words of the state.
-enum { PHASE, PEER, SELECTION, A, B, M, AWAITED, ANSWER };
+enum { PHASE, PEER, SELECTION, A, B, M, AWAITED, ANSWER, EDITION, STATE_WORDS };
+
+// The editions, which are version bytes too.
+enum { EDITION_1_1 = 0x11, EDITION_1_2 = 0x12 };
 
 // The input, read from its start. Past its end it gives 0.
 struct feed {
@@ -55,10 +58,11 @@ void damage_image(struct world *world, struct feed *feed);
 // Kinds of request: the seven served ones in the order of a conversation, then any bytes.
 enum { VERSION, CAPABILITIES, ALGORITHMS, DIGESTS, CERTIFICATE, CHALLENGE, MEASUREMENTS, ANY_BYTES };
 
+// A request of the edition that the state has; GET_CAPABILITIES of either.
 void write_request(struct world *world, struct feed *feed, unsigned kind);
 // GET_CERTIFICATE for slot 0.
 void write_read(struct world *world, unsigned offset, unsigned length);
-// Now and then a byte, the length, pad bytes, or a length near the limit.
+// Now and then the version byte, another byte, the length, pad bytes, or a length near the limit.
 void damage_request(struct world *world, struct feed *feed);
 
 // Right lengths for every buffer, or now and then others.
@@ -67,8 +71,10 @@ void right_lengths(struct world *world);
 
 // Any word of the state changed.
 void poke_state(struct world *world, struct feed *feed);
-// A state in phase 3 with counts near their limits, in bounds for most images.
+// A state in phase 3, of either edition, with counts near their limits, in bounds for most images.
 void full_state(struct world *world, struct feed *feed);
+// A state of any phase, edition and size, in bounds or out of them in a word or two.
+void mix_state(struct world *world, struct feed *feed);
 // Most times a fresh state and an accepted image, so that the list gets somewhere after damage.
 void repair(struct world *world, struct feed *feed);
 

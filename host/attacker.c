@@ -56,10 +56,10 @@ size_t intruder_exchange(void *other, struct bytes request, uint8_t *answer, siz
 {
     struct intruder *intruder = other;
     struct box *box = intruder->box;
-    const uint8_t get_digests[4] = {0x12, GET_DIGESTS};
     const size_t length = box_exchange(box, request, answer, room);
     if (length > 0 || box->number != 0)
         return length;
+    const uint8_t get_digests[4] = {request.at[0], GET_DIGESTS};
     intruder->length = box_exchange(box, (struct bytes){get_digests, sizeof get_digests}, intruder->answer,
         sizeof intruder->answer);
     return box_deliver(box, answer, room);

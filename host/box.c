@@ -5,6 +5,9 @@
 #include <openssl/rand.h>
 #include <string.h>
 
+_Static_assert(STATE_WORDS == SPDM_STATE_WORDS && PREFIX_SIZE == SPDM_PREFIX_LEN, "as the library has it");
+_Static_assert(EDITION_1_1 == SPDM_EDITION_1_1 && EDITION_1_2 == SPDM_EDITION_1_2, "as the library has it");
+
 enum { KIND_IDENTITY = 1, KIND_CHAIN = 2, KIND_MEASUREMENT = 3, KIND_SUMMARIES = 4 };
 
 static bool append(struct box *box, struct bytes part)
@@ -118,19 +121,52 @@ static size_t take_result(struct box *box, uint32_t result)
     return SPDM_LENGTH(result);
 }
 
-// Has the chip sign what the library names.
+// What the library says is to be signed.
+struct named {
+    uint8_t prefix[PREFIX_SIZE];
+    size_t prefix_length;
+    uint32_t parts[SPDM_PARTS_WORDS];
+};
+
+static bool name_signed(const uint32_t state[STATE_WORDS], struct named *named)
+{
+    const uint32_t result = spdm_to_sign(state, STATE_WORDS, named->prefix, sizeof named->prefix, named->parts,
+        SPDM_PARTS_WORDS);
+    named->prefix_length = SPDM_LENGTH(result);
+    return SPDM_NUMBER(result) == 0;
+}
+
+// A mistake: the prefix, or the parts, that the library would name under the other edition.
+static bool mistake(const struct box *box, struct named *named)
+{
+    struct named other = {0};
+    uint32_t state[STATE_WORDS];
+    memcpy(state, box->state, sizeof state);
+    state[SPDM_STATE_EDITION] = other_edition((uint8_t)state[SPDM_STATE_EDITION]);
+    if (!name_signed(state, &other))
+        return false;
+    if (box->conduct == SIGNS_OTHER_PARTS) {
+        memcpy(named->parts, other.parts, sizeof named->parts);
+        return true;
+    }
+    memcpy(named->prefix, other.prefix, sizeof named->prefix);
+    named->prefix_length = other.prefix_length;
+    return true;
+}
+
+// Has the chip sign what the library names: as many bytes of the prefix as there are, and the hash of both parts. So it
+// need not know the edition.
 static bool signed_by_chip(const struct box *box, uint8_t *signature)
 {
-    uint8_t prefix[PREFIX_SIZE];
-    uint32_t parts[SPDM_PARTS_WORDS];
-    if (box->conduct == FAILS)
+    struct named named = {0};
+    if (box->conduct == FAILS || !name_signed(box->state, &named))
         return false;
-    const uint32_t result = spdm_to_sign(box->state, STATE_WORDS, prefix, sizeof prefix, parts, SPDM_PARTS_WORDS);
-    if (SPDM_NUMBER(result) != 0)
+    if ((box->conduct == SIGNS_OTHER_PREFIX || box->conduct == SIGNS_OTHER_PARTS) && !mistake(box, &named))
         return false;
+    const uint32_t *parts = named.parts;
     const struct bytes first = {box->transcript + parts[SPDM_PARTS_FIRST_OFFSET], parts[SPDM_PARTS_FIRST_LENGTH]};
     const struct bytes second = {box->transcript + parts[SPDM_PARTS_SECOND_OFFSET], parts[SPDM_PARTS_SECOND_LENGTH]};
-    return chip_sign(box->chip, (struct bytes){prefix, sizeof prefix}, first, second, signature);
+    return chip_sign(box->chip, (struct bytes){named.prefix, named.prefix_length}, first, second, signature);
 }
 
 static size_t finish_with(struct box *box, bool chip_ok, struct bytes signature)

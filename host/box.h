@@ -8,12 +8,13 @@
 enum {
     IMAGE_LIMIT = 36864,
     TRANSCRIPT_SIZE = 16384,
-    STATE_WORDS = 8,
+    STATE_WORDS = 9,
     CT_EXPONENT = 14,
 };
 
-// What the chip does when it is asked to sign.
-enum chip_conduct { SIGNS, FAILS, SIGNS_SHORT, TAKES_ITS_TIME };
+// What the chip does when it is asked to sign. The last two are a mistaken host's, who lets it sign with the prefix,
+// or over the parts, of the edition that was not chosen.
+enum chip_conduct { SIGNS, FAILS, SIGNS_SHORT, TAKES_ITS_TIME, SIGNS_OTHER_PREFIX, SIGNS_OTHER_PARTS };
 
 // An awaited answer stays in `answer` until it is finished; answers in the meantime are written to `meantime`.
 struct box {

@@ -38,29 +38,28 @@ static bool plain_signature(struct bytes der, uint8_t *signature, size_t size)
     return good;
 }
 
-static bool sign_message(const struct chip *chip, struct bytes message, uint8_t *signature)
+// The signature algorithm's own step: on a digest of the suite's size.
+static bool sign_digest(const struct chip *chip, const uint8_t *digest, uint8_t *signature)
 {
     uint8_t der[256];
     size_t length = sizeof der;
-    EVP_MD_CTX *context = EVP_MD_CTX_new();
-    bool good = context
-        && EVP_DigestSignInit(context, NULL, hash_of(chip->suite), NULL, chip->key) == 1
-        && EVP_DigestSign(context, der, &length, message.at, message.length) == 1
+    EVP_PKEY_CTX *context = EVP_PKEY_CTX_new(chip->key, NULL);
+    bool good = context && EVP_PKEY_sign_init(context) == 1
+        && EVP_PKEY_sign(context, der, &length, digest, chip->suite->digest_size) == 1
         && plain_signature((struct bytes){der, length}, signature, chip->suite->signature_size);
-    EVP_MD_CTX_free(context);
+    EVP_PKEY_CTX_free(context);
     return good;
 }
 
 bool chip_sign(const struct chip *chip, struct bytes prefix, struct bytes first, struct bytes second,
     uint8_t *signature)
 {
-    uint8_t message[PREFIX_SIZE + DIGEST_LIMIT];
-    if (prefix.length != PREFIX_SIZE)
-        return false;
-    memcpy(message, prefix.at, PREFIX_SIZE);
-    if (!digest_of(chip->suite, (struct bytes[]){first, second}, 2, message + PREFIX_SIZE))
-        return false;
-    return sign_message(chip, (struct bytes){message, PREFIX_SIZE + chip->suite->digest_size}, signature);
+    uint8_t digest[DIGEST_LIMIT];
+    const struct bytes message[] = {prefix, {digest, chip->suite->digest_size}};
+    bool good = digest_of(chip->suite, (struct bytes[]){first, second}, 2, digest);
+    if (prefix.length > 0)
+        good = good && digest_of(chip->suite, message, 2, digest);
+    return good && sign_digest(chip, digest, signature);
 }
 
 static bool set_serial(X509 *certificate)

@@ -24,7 +24,8 @@ struct maker {
 bool chip_start(struct chip *chip, const struct suite *suite);
 void chip_end(struct chip *chip);
 
-// Signs the prefix followed by the digest of the transcript's two parts. The signature is r, then s.
+// Signs the prefix followed by the digest of the transcript's two parts; without a prefix, as under 1.1, that digest
+// alone, which is not hashed again. The signature is r, then s.
 bool chip_sign(const struct chip *chip, struct bytes prefix, struct bytes first, struct bytes second,
     uint8_t *signature);
 

@@ -9,7 +9,7 @@
 // ResponseTooLarge tells the size that the answer would have.
 static void check_too_large(struct stage *stage, size_t size, const char *what)
 {
-    uint8_t error[8] = {0x12, ERROR, 0x0D, 0};
+    uint8_t error[8] = {EDITION_1_2, ERROR, 0x0D, 0};
     write_32(error + 4, (uint32_t)size);
     show_check(stage->show, answered(stage, (struct bytes){error, sizeof error}),
         "%s is too large for size %u: %zu bytes", what, SMALL, size);
@@ -46,38 +46,61 @@ static void meet_small_panel(struct stage *stage)
     check_too_large(stage, 4 + suite->digest_size + NONCE_SIZE + 2 + suite->signature_size, "CHALLENGE_AUTH");
 }
 
-static void meet_large_panel(struct stage *stage)
+// A conversation to its end, and what is said of it.
+struct meeting {
+    uint8_t edition;
+    const char *title, *connects, *challenge, *measurements;
+};
+
+static const struct meeting large_panel = {
+    EDITION_1_2,
+    "A large panel, DataTransferSize 4608",
+    "large panel connects",
+    "CHALLENGE_AUTH's signature over A then B, by the leaf's key",
+    "MEASUREMENTS' signature over A then M, the unsigned ones in it",
+};
+
+static const struct meeting old_panel = {
+    EDITION_1_1,
+    "A panel that only speaks 1.1: nobody tells sizes, and what is signed has no prefix",
+    "panel of 1.1 connects",
+    "CHALLENGE_AUTH's signature over A then B, with no prefix, by the leaf's key",
+    "MEASUREMENTS' signature over M alone, with no prefix, the unsigned ones in it",
+};
+
+static void meet_panel(struct stage *stage, const struct meeting *meeting)
 {
     struct panel *panel = &stage->panel;
-    show_title(stage->show, "A large panel, DataTransferSize 4608");
-    check_verdict(stage, panel_connect(panel, LARGE), GOOD, "large panel connects");
+    stage->edition = meeting->edition;
+    place_panel_at(stage, &stage->box);
+    show_title(stage->show, meeting->title);
+    check_verdict(stage, panel_connect(panel, LARGE), GOOD, meeting->connects);
     check_verdict(stage, panel_digests(panel), GOOD, "digests read");
     check_verdict(stage, panel_chain(panel, 0, 1024), GOOD,
         "chain read, its digest, root hash and certificates checked");
-    check_verdict(stage, panel_challenge(panel, 0, 0xFF), GOOD,
-        "CHALLENGE_AUTH's signature over A then B, by the leaf's key");
+    check_verdict(stage, panel_challenge(panel, 0, 0xFF), GOOD, meeting->challenge);
     check_verdict(stage, panel_measurements(panel, 0, false), GOOD, "unsigned measurements, and their summary hash");
-    check_verdict(stage, panel_measurements(panel, 0, true), GOOD,
-        "MEASUREMENTS' signature over A then M, the unsigned ones in it");
+    check_verdict(stage, panel_measurements(panel, 0, true), GOOD, meeting->measurements);
 }
 
-// The whole conversation of both panels with one box.
+// The whole conversations of three panels with one box.
 static void meet(struct show *show, const struct suite *suite, bool quiet)
 {
     show->quiet = quiet;
     printf("\n==== A box with %s%s\n", suite->name, quiet ? " (conversation not printed)" : "");
-    struct stage *stage = stage_start(show, suite);
+    struct stage *stage = stage_start(show, suite, EDITION_1_2);
     if (!stage)
         return;
     meet_small_panel(stage);
-    meet_large_panel(stage);
+    meet_panel(stage, &large_panel);
+    meet_panel(stage, &old_panel);
     stage_end(stage);
 }
 
 // The first box's image, and the lines that the bench would make it of.
 static void export_box(struct show *show, const struct suite *suite, const char *lines_path, const char *image_path)
 {
-    struct stage *stage = stage_start(show, suite);
+    struct stage *stage = stage_start(show, suite, EDITION_1_2);
     if (!stage)
         return;
     show_check(show, write_lines(&stage->box, lines_path, image_path), "%s and %s written", lines_path, image_path);
@@ -107,7 +130,11 @@ int main(int count, char **words)
     meet(&show, p256, false);
     meet(&show, p384, false);
     meet(&show, suite_by_numbers(2, 7), true);
-    audit(&show, p256);
-    audit(&show, p384);
+    audit(&show, p256, EDITION_1_2);
+    audit(&show, p384, EDITION_1_2);
+    audit(&show, p256, EDITION_1_1);
+    audit_editions(&show, p384);
+    audit_host(&show, p256);
+    audit_host(&show, p384);
     return show_end(&show);
 }

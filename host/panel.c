@@ -14,6 +14,7 @@ const char *verdict_text(enum verdict verdict)
         [SILENT] = "no answer",
         [REFUSED] = "refused by an ERROR",
         [MALFORMED] = "answer not laid out as it should be",
+        [NOTHING_COMMON] = "no edition in common",
         [WRONG_DIGEST] = "digest does not match the chain",
         [UNKNOWN_ROOT] = "root certificate not trusted",
         [WRONG_CERTIFICATE] = "certificate not signed by the root",
@@ -79,6 +80,19 @@ static enum verdict keep(struct panel *panel, struct log *log, struct bytes requ
     return log_bytes(log, request) && log_bytes(log, answer) ? GOOD : MALFORMED;
 }
 
+// Of the listed editions the one that the panel takes; 0 if it speaks none. An entry's high byte is the edition.
+static uint8_t take_edition(const struct speech *speech, struct bytes entries)
+{
+    uint8_t taken = 0;
+    for (size_t i = 0; i + 2 <= entries.length; i += 2) {
+        const uint8_t listed = entries.at[i + 1];
+        const bool spoken = listed >= speech->from && listed <= speech->to;
+        if (spoken && (taken == 0 || (listed > taken && !speech->takes_first)))
+            taken = listed;
+    }
+    return taken;
+}
+
 enum verdict panel_version(struct panel *panel)
 {
     const uint8_t text[4] = {0x10, GET_VERSION, panel->reserved, panel->reserved};
@@ -86,29 +100,33 @@ enum verdict panel_version(struct panel *panel)
     const enum verdict verdict = ask(panel, request, VERSION);
     if (verdict != GOOD)
         return verdict;
-    const uint8_t *answer = panel->answer;
-    if (panel->answer_length != 8 || answer[5] != 1 || read_16(answer + 6) != 0x1200)
+    if (panel->answer_length < 6 || panel->answer_length != 6 + 2 * (size_t)panel->answer[5])
         return MALFORMED;
     panel->a.length = panel->b.length = panel->m.length = 0;
     panel->suite = panel->show->suite = NULL;
     panel->slots = 0;
     panel->has_summary = false;
-    return keep(panel, &panel->a, request, 8);
+    panel->edition = take_edition(&panel->speech, (struct bytes){panel->answer + 6, panel->answer_length - 6});
+    if (panel->edition == 0)
+        return NOTHING_COMMON;
+    show_note(panel->show, "the panel takes %s", edition_text(panel->edition));
+    return keep(panel, &panel->a, request, panel->answer_length);
 }
 
 enum verdict panel_capabilities(struct panel *panel, uint32_t size)
 {
-    uint8_t text[20] = {0x12, GET_CAPABILITIES};
+    const size_t length = panel->edition == EDITION_1_1 ? 12 : 20;
+    uint8_t text[20] = {panel->edition, GET_CAPABILITIES};
     memset(text + 2, panel->reserved, 10);
     write_32(text + 12, size);
     write_32(text + 16, size);
-    const struct bytes request = {text, sizeof text};
+    const struct bytes request = {text, length};
     const enum verdict verdict = ask(panel, request, CAPABILITIES);
     if (verdict != GOOD)
         return verdict;
-    if (panel->answer_length != 20)
+    if (panel->answer_length != length)
         return MALFORMED;
-    return keep(panel, &panel->a, request, 20);
+    return keep(panel, &panel->a, request, length);
 }
 
 // The number of the only bit that is set; 32 if it isn't only one.
@@ -121,13 +139,13 @@ static unsigned only_bit(uint32_t word)
 }
 
 // Offers P-256 and P-384, SHA-256, SHA-384 and SHA-512, and four structures for sessions, as panels do.
-static void write_offer(uint8_t text[48], uint8_t reserved)
+static void write_offer(uint8_t text[48], uint8_t edition, uint8_t reserved)
 {
     static const uint8_t structures[16] = {
         2, 0x20, 0x18, 0, 3, 0x20, 0x06, 0, 4, 0x20, 0x90, 0, 5, 0x20, 0x01, 0,
     };
     memset(text, 0, 48);
-    text[0] = 0x12;
+    text[0] = edition;
     text[1] = NEGOTIATE_ALGORITHMS;
     text[2] = 4;
     text[3] = reserved;
@@ -142,7 +160,7 @@ static void write_offer(uint8_t text[48], uint8_t reserved)
 enum verdict panel_algorithms(struct panel *panel)
 {
     uint8_t text[48];
-    write_offer(text, panel->reserved);
+    write_offer(text, panel->edition, panel->reserved);
     const struct bytes request = {text, sizeof text};
     const enum verdict verdict = ask(panel, request, ALGORITHMS);
     if (verdict != GOOD)
@@ -186,7 +204,7 @@ enum verdict panel_digests(struct panel *panel)
 {
     if (!panel->suite)
         return UNCONNECTED;
-    const uint8_t text[4] = {0x12, GET_DIGESTS, panel->reserved, panel->reserved};
+    const uint8_t text[4] = {panel->edition, GET_DIGESTS, panel->reserved, panel->reserved};
     const struct bytes request = {text, sizeof text};
     const enum verdict verdict = ask(panel, request, DIGESTS);
     if (verdict != GOOD)
@@ -200,7 +218,7 @@ enum verdict panel_digests(struct panel *panel)
 // One portion: asks at the sum of the portions held. `remainder` is what is left after it.
 static enum verdict read_portion(struct panel *panel, uint8_t slot, unsigned length, unsigned *remainder)
 {
-    uint8_t text[8] = {0x12, GET_CERTIFICATE, (uint8_t)(panel->reserved << 4 | slot), panel->reserved};
+    uint8_t text[8] = {panel->edition, GET_CERTIFICATE, (uint8_t)(panel->reserved << 4 | slot), panel->reserved};
     write_16(text + 4, (unsigned)panel->chain.length);
     write_16(text + 6, length);
     const struct bytes request = {text, sizeof text};
@@ -312,7 +330,8 @@ static int der_signature(struct bytes plain, uint8_t **der)
     return length;
 }
 
-static bool signature_holds(const struct panel *panel, struct bytes message, struct bytes plain)
+// A signature over a message in two parts, with the suite's hash.
+static bool signature_holds(const struct panel *panel, struct bytes first, struct bytes second, struct bytes plain)
 {
     uint8_t *der = NULL;
     const int length = der_signature(plain, &der);
@@ -320,24 +339,34 @@ static bool signature_holds(const struct panel *panel, struct bytes message, str
     const EVP_MD *hash = EVP_get_digestbyname(panel->suite->hash);
     bool good = context && panel->leaf_key && length > 0
         && EVP_DigestVerifyInit(context, NULL, hash, NULL, panel->leaf_key) == 1
-        && EVP_DigestVerify(context, der, (size_t)length, message.at, message.length) == 1;
+        && EVP_DigestVerifyUpdate(context, first.at, first.length) == 1
+        && EVP_DigestVerifyUpdate(context, second.at, second.length) == 1
+        && EVP_DigestVerifyFinal(context, der, (size_t)length) == 1;
     EVP_MD_CTX_free(context);
     OPENSSL_free(der);
     return good;
 }
 
-// The signature at the answer's end, over the prefix and the digest of the panel's own log: A, then B or M.
+// Under 1.2: a prefix, then the digest of A, then B or M.
+static bool holds_with_prefix(const struct panel *panel, struct bytes rest, const char *context, struct bytes plain)
+{
+    uint8_t prefix[PREFIX_SIZE], digest[DIGEST_LIMIT];
+    const struct bytes parts[] = {{panel->a.bytes, panel->a.length}, rest};
+    write_prefix(prefix, context);
+    return digest_of(panel->suite, parts, 2, digest)
+        && signature_holds(panel, (struct bytes){prefix, sizeof prefix},
+            (struct bytes){digest, panel->suite->digest_size}, plain);
+}
+
+// The signature at the answer's end, by the panel's own log. Under 1.1 it is one over A, then B; or over M alone.
 static enum verdict check_signature(const struct panel *panel, const struct log *log, const char *context)
 {
-    uint8_t message[PREFIX_SIZE + DIGEST_LIMIT];
-    const struct bytes parts[] = {{panel->a.bytes, panel->a.length}, {log->bytes, log->length}};
     const size_t size = panel->suite->signature_size;
-    write_prefix(message, context);
-    if (!digest_of(panel->suite, parts, 2, message + PREFIX_SIZE))
-        return WRONG_SIGNATURE;
-    const struct bytes text = {message, PREFIX_SIZE + panel->suite->digest_size};
-    const struct bytes plain = {panel->answer + panel->answer_length - size, size};
-    return signature_holds(panel, text, plain) ? GOOD : WRONG_SIGNATURE;
+    const struct bytes plain = {panel->answer + panel->answer_length - size, size}, rest = {log->bytes, log->length};
+    const struct bytes before = {panel->a.bytes, log == &panel->m ? 0 : panel->a.length};
+    const bool good = panel->edition == EDITION_1_1 ? signature_holds(panel, before, rest, plain)
+        : holds_with_prefix(panel, rest, context, plain);
+    return good ? GOOD : WRONG_SIGNATURE;
 }
 
 // The layout and the fields of CHALLENGE_AUTH.
@@ -360,7 +389,7 @@ static enum verdict check_auth(struct panel *panel, uint8_t slot, uint8_t summar
 
 enum verdict panel_challenge(struct panel *panel, uint8_t slot, uint8_t summary)
 {
-    uint8_t text[4 + NONCE_SIZE] = {0x12, CHALLENGE, slot, summary};
+    uint8_t text[4 + NONCE_SIZE] = {panel->edition, CHALLENGE, slot, summary};
     const struct bytes request = {text, sizeof text};
     if (!panel->suite)
         return UNCONNECTED;
@@ -422,7 +451,7 @@ static enum verdict check_record(const struct panel *panel, uint8_t slot, size_t
 
 enum verdict panel_measurements(struct panel *panel, uint8_t slot, bool is_signed)
 {
-    uint8_t text[5 + NONCE_SIZE] = {0x12, GET_MEASUREMENTS, is_signed, 0xFF};
+    uint8_t text[5 + NONCE_SIZE] = {panel->edition, GET_MEASUREMENTS, is_signed, 0xFF};
     const struct bytes request = {text, is_signed ? sizeof text : 4};
     if (!panel->suite)
         return UNCONNECTED;

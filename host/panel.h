@@ -22,11 +22,18 @@ enum verdict {
     SILENT,
     REFUSED,
     MALFORMED,
+    NOTHING_COMMON,
     WRONG_DIGEST,
     UNKNOWN_ROOT,
     WRONG_CERTIFICATE,
     WRONG_SIGNATURE,
     WRONG_MEASUREMENT,
+};
+
+// The editions that a panel speaks, and which of those that VERSION lists it takes: the largest, or the first.
+struct speech {
+    uint8_t from, to;
+    bool takes_first;
 };
 
 struct log {
@@ -37,12 +44,14 @@ struct log {
 struct panel {
     struct line line;
     struct show *show;
+    struct speech speech;
     struct bytes trusted_root;
     const struct component *components;
     size_t component_count;
     uint8_t reserved;
     size_t pad;
 
+    uint8_t edition;
     const struct suite *suite;
     struct log a, b, m;
     uint8_t slots;
@@ -58,12 +67,15 @@ struct panel {
 
 const char *verdict_text(enum verdict verdict);
 
-// What a panel is given: the line, the root's digest that it trusts, the components that it expects.
+// What a panel is given: the line, the editions that it speaks, the root's digest that it trusts, the components that
+// it expects.
 // `reserved` is put into every reserved byte of its requests; `pad` bytes follow every request.
 void panel_start(struct panel *panel, struct line line, struct show *show);
 void panel_end(struct panel *panel);
 
+// Takes an edition, which all its later requests carry.
 enum verdict panel_version(struct panel *panel);
+// Tells the size under 1.2; under 1.1 there is no place for it.
 enum verdict panel_capabilities(struct panel *panel, uint32_t size);
 enum verdict panel_algorithms(struct panel *panel);
 enum verdict panel_digests(struct panel *panel);

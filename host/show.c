@@ -69,12 +69,24 @@ static size_t put_part(struct bytes message, size_t start, size_t length, const 
     return start + length;
 }
 
+static void put_versions(struct bytes message)
+{
+    printf("            editions");
+    for (size_t i = 6; i + 2 <= message.length; i += 2)
+        printf("%s %s", i == 6 ? "" : ",", edition_text(message.at[i + 1]));
+    printf("\n");
+}
+
+// Under 1.1 there are no sizes.
 static void put_capabilities(struct bytes message)
 {
-    if (message.length < 20)
+    if (message.length < 12)
         return;
-    printf("            CTExponent %u, Flags 0x%02X, DataTransferSize %u, MaxSPDMmsgSize %u\n", message.at[5],
-        (unsigned)read_32(message.at + 8), (unsigned)read_32(message.at + 12), (unsigned)read_32(message.at + 16));
+    printf("            CTExponent %u, Flags 0x%02X", message.at[5], (unsigned)read_32(message.at + 8));
+    if (message.at[0] != EDITION_1_1 && message.length >= 20)
+        printf(", DataTransferSize %u, MaxSPDMmsgSize %u", (unsigned)read_32(message.at + 12),
+            (unsigned)read_32(message.at + 16));
+    printf("\n");
 }
 
 static void put_negotiation(struct bytes message)
@@ -184,6 +196,7 @@ static void put_error(struct bytes message)
 static void put_fields(const struct show *show, struct bytes message)
 {
     switch (message.at[1]) {
+    case VERSION: put_versions(message); break;
     case GET_CAPABILITIES:
     case CAPABILITIES: put_capabilities(message); break;
     case NEGOTIATE_ALGORITHMS: put_negotiation(message); break;
@@ -258,16 +271,22 @@ void show_change(struct bytes message, size_t offset, uint8_t before)
     put_around("arrives:", message, offset, message.at[offset]);
 }
 
-void show_title(struct show *show, const char *title)
+void show_title(const struct show *show, const char *title)
 {
     if (!show->quiet)
         printf("\n== %s\n", title);
 }
 
-void show_note(struct show *show, const char *note)
+void show_note(const struct show *show, const char *format, ...)
 {
-    if (!show->quiet)
-        printf("  -- %s\n", note);
+    va_list arguments;
+    if (show->quiet)
+        return;
+    printf("  -- ");
+    va_start(arguments, format);
+    vprintf(format, arguments);
+    va_end(arguments);
+    printf("\n");
 }
 
 void show_check(struct show *show, bool good, const char *format, ...)

@@ -13,8 +13,8 @@ struct show {
     unsigned wrong;
 };
 
-void show_title(struct show *show, const char *title);
-void show_note(struct show *show, const char *note);
+void show_title(const struct show *show, const char *title);
+void show_note(const struct show *show, const char *format, ...) __attribute__((format(printf, 2, 3)));
 
 // One request and its answer. Of many portions of a chain the first two and the last are printed.
 void show_exchange(struct show *show, struct bytes request, struct bytes answer);

@@ -25,6 +25,7 @@ void place_panel(struct stage *stage, struct line line)
 {
     panel_end(&stage->panel);
     panel_start(&stage->panel, line, stage->show);
+    stage->panel.speech = (struct speech){stage->edition, stage->edition, false};
     stage->panel.trusted_root = (struct bytes){stage->maker.root_digest, stage->suite->digest_size};
     stage->panel.components = components;
     stage->panel.component_count = COMPONENT_COUNT;
@@ -55,13 +56,14 @@ void stage_end(struct stage *stage)
     free(stage);
 }
 
-struct stage *stage_start(struct show *show, const struct suite *suite)
+struct stage *stage_start(struct show *show, const struct suite *suite, uint8_t edition)
 {
     struct stage *stage = calloc(1, sizeof *stage);
     if (!stage)
         abort();
     stage->show = show;
     stage->suite = suite;
+    stage->edition = edition;
     const bool made = make_boxes(stage);
     show_check(show, made, "%s: two boxes provisioned, their images accepted", suite->name);
     if (made) {

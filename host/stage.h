@@ -11,10 +11,14 @@
 // The panels' sizes: the least that the box serves, and the most that it sends.
 enum { SMALL = 42, LARGE = MESSAGE_LIMIT };
 
-// A maker and two boxes of his, each with its own chip.
+// A run of bytes, written out.
+#define BYTES(...) ((struct bytes){(const uint8_t[]){__VA_ARGS__}, sizeof(const uint8_t[]){__VA_ARGS__}})
+
+// A maker and two boxes of his, each with its own chip. Panels that are placed speak this edition only.
 struct stage {
     struct show *show;
     const struct suite *suite;
+    uint8_t edition;
     struct maker maker;
     struct chip chip, second_chip;
     struct chain chain, second_chain;
@@ -23,7 +27,7 @@ struct stage {
 };
 
 // Makes maker, chips and boxes, which is a check; NULL if it fails.
-struct stage *stage_start(struct show *show, const struct suite *suite);
+struct stage *stage_start(struct show *show, const struct suite *suite, uint8_t edition);
 void stage_end(struct stage *stage);
 
 // What goes into every image beside chains.

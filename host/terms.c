@@ -3,6 +3,17 @@
 #include <openssl/evp.h>
 #include <string.h>
 
+const char *edition_text(uint8_t edition)
+{
+    static const char *const texts[] = {"1.0", "1.1", "1.2", "1.3"};
+    return edition >= 0x10 && edition <= 0x13 ? texts[edition - 0x10] : "(none of SPDM's)";
+}
+
+uint8_t other_edition(uint8_t edition)
+{
+    return edition == EDITION_1_1 ? EDITION_1_2 : EDITION_1_1;
+}
+
 const struct suite *suite_by_numbers(unsigned hash_number, unsigned signature_number)
 {
     static const struct suite suites[] = {

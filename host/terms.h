@@ -15,6 +15,9 @@ enum {
     PREFIX_SIZE = 100,
 };
 
+// SPDM's editions, by their messages' version byte. GET_VERSION and VERSION, which come before the choice, have 0x10.
+enum { EDITION_1_1 = 0x11, EDITION_1_2 = 0x12 };
+
 // SPDM's codes: requests, then answers.
 enum {
     GET_DIGESTS = 0x81,
@@ -63,6 +66,11 @@ struct chain {
     size_t length;
     uint8_t bytes[CHAIN_LIMIT];
 };
+
+// An edition as people write it.
+const char *edition_text(uint8_t edition);
+// Of the two editions the other one.
+uint8_t other_edition(uint8_t edition);
 
 // The suite with these numbers, or NULL.
 const struct suite *suite_by_numbers(unsigned hash_number, unsigned signature_number);

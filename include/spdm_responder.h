@@ -1,5 +1,6 @@
 /*
- * An SPDM 1.2 responder for one connection.
+ * An SPDM 1.1 and 1.2 responder for one connection. The panel chooses between the two: GET_CAPABILITIES, by its version
+ * byte.
  *
  * Every function tests all that it is given and always returns. It keeps nothing between two calls, allocates nothing
  * and calls nothing but memcpy and memset, by their names on the processor. The host holds state, transcript and
@@ -19,14 +20,14 @@ extern "C" {
 #endif
 
 /* The version of this header: one more with every change of a declaration, of a value or of what a call gives. */
-#define SPDM_RESPONDER_VERSION 1
+#define SPDM_RESPONDER_VERSION 2
 
 /* Sizes. */
-#define SPDM_STATE_WORDS 8         /* exactly this many words of state */
+#define SPDM_STATE_WORDS 9         /* exactly this many words of state */
 #define SPDM_ANSWER_MIN 4608       /* at least this many bytes for an answer; no answer is longer */
 #define SPDM_TRANSCRIPT_MIN 16384  /* at least this many bytes of transcript; none past it is used */
 #define SPDM_NONCE_LEN 32          /* exactly this many bytes of nonce */
-#define SPDM_PREFIX_LEN 100        /* the prefix that is signed before the hash */
+#define SPDM_PREFIX_LEN 100        /* room for the prefix, which under 1.2 is signed before the hash */
 #define SPDM_PARTS_WORDS 4         /* offset and length of two parts */
 #define SPDM_IMAGE_MAX 36864       /* the longest image that is accepted */
 #define SPDM_ALGORITHMS_WORDS 7    /* what spdm_image_algorithms shows */
@@ -34,23 +35,29 @@ extern "C" {
 #define SPDM_SIGNATURE_MAX 512     /*   and the longest signature of an image */
 
 /*
- * The state of a connection: 8 words, all zero when it is fresh. The host may read them, and must write none but to
+ * The state of a connection: 9 words, all zero when it is fresh. The host may read them, and must write none but to
  * make them all zero: a fresh connection.
  */
 #define SPDM_STATE_PHASE 0         /* 0 nothing said, 1 after VERSION, 2 after CAPABILITIES, 3 after ALGORITHMS */
-#define SPDM_STATE_PEER 1          /* the peer's DataTransferSize */
+#define SPDM_STATE_PEER 1          /* the peer's DataTransferSize; under 1.1, which has none, 4,608 */
 #define SPDM_STATE_SELECTION 2     /* 1 if the measurement specification was selected */
 #define SPDM_STATE_A 3             /* bytes used of A, */
 #define SPDM_STATE_B 4             /*   of B */
 #define SPDM_STATE_M 5             /*   and of M */
-#define SPDM_STATE_AWAITED 6       /* whose signature is awaited: 0 none, else one of the two below */
+#define SPDM_STATE_AWAITED 6       /* whose signature is awaited: 0 none, else as below */
 #define SPDM_STATE_ANSWER 7        /* the awaited answer's length, 0 if none is awaited */
+#define SPDM_STATE_EDITION 8       /* the chosen edition: 0 none yet, in phases 0 and 1, else as below */
 
+/* Values of SPDM_STATE_AWAITED. */
 #define SPDM_AWAITS_CHALLENGE 1
 #define SPDM_AWAITS_MEASUREMENTS 2
 
+/* Values of SPDM_STATE_EDITION: the version byte of all messages after the choice but GET_VERSION and VERSION. */
+#define SPDM_EDITION_1_1 0x11
+#define SPDM_EDITION_1_2 0x12
+
 /* `parts` after spdm_to_sign: offset and length in the transcript. */
-#define SPDM_PARTS_FIRST_OFFSET 0  /* A */
+#define SPDM_PARTS_FIRST_OFFSET 0  /* A; empty, at 0, before M under 1.1 */
 #define SPDM_PARTS_FIRST_LENGTH 1
 #define SPDM_PARTS_SECOND_OFFSET 2 /* B, or M */
 #define SPDM_PARTS_SECOND_LENGTH 3
@@ -94,18 +101,20 @@ extern "C" {
 
 /* An ERROR: byte 1 of the answer is SPDM_ERROR, byte 2 one of these codes. */
 #define SPDM_ERROR 0x7F
-#define SPDM_ERROR_INVALID_REQUEST 0x01     /* under 4 bytes, too short for its layout, or a field wrong */
+#define SPDM_ERROR_INVALID_REQUEST 0x01     /* under 4 bytes, too short for its layout, or a field wrong; */
+                                            /*   under 1.1 over 4,608 bytes too */
 #define SPDM_ERROR_BUSY 0x03                /* a signature is awaited */
 #define SPDM_ERROR_UNEXPECTED_REQUEST 0x04  /* wrong phase, or measurements that were not selected */
 #define SPDM_ERROR_UNSPECIFIED 0x05         /* no room in the transcript, or the chip failed */
 #define SPDM_ERROR_UNSUPPORTED_REQUEST 0x07 /* not served, measurements of an image without any; byte 3 is the code */
 #define SPDM_ERROR_RESPONSE_TOO_LARGE 0x0D  /* the answer is over the peer's size; bytes 4 to 7 are its length */
-#define SPDM_ERROR_REQUEST_TOO_LARGE 0x0E   /* over 4,608 bytes */
-#define SPDM_ERROR_VERSION_MISMATCH 0x41    /* wrong version byte */
+#define SPDM_ERROR_REQUEST_TOO_LARGE 0x0E   /* over 4,608 bytes, where 1.1 was not chosen */
+#define SPDM_ERROR_VERSION_MISMATCH 0x41    /* wrong version byte, also the edition's that was not chosen */
 
 /*
  * A result is number * 65536 + length. With a number (not 0) the length is 0, nothing was written, and state and
- * buffers are as they were. Without one the length is that of the answer.
+ * buffers are as they were. Without one the length is that of the answer; from spdm_to_sign it is the prefix's, which
+ * under 1.1 is 0 too.
  */
 #define SPDM_NUMBER(result) ((uint32_t)(result) >> 16)
 #define SPDM_LENGTH(result) ((uint32_t)(result) & 0xFFFFu)
@@ -124,7 +133,7 @@ extern "C" {
 #define SPDM_SHORT_BUFFER 11       /* answer under 4,608 bytes, prefix under 100; parts under 4 words, algorithms 7 */
 #define SPDM_SHORT_TRANSCRIPT 12   /* transcript under 16,384 bytes */
 #define SPDM_WRONG_NONCE 13        /* nonce not 32 bytes */
-#define SPDM_WRONG_STATE 14        /* state not 8 words or out of its bounds; spdm_to_sign: bounds that need no image */
+#define SPDM_WRONG_STATE 14        /* state not 9 words or out of its bounds; spdm_to_sign: bounds that need no image */
 #define SPDM_NOTHING_AWAITED 15    /* no signature is awaited */
 #define SPDM_WRONG_SIGNATURE 16    /* the chip succeeded, and its signature is not S bytes */
 
@@ -138,7 +147,7 @@ extern "C" {
  *   11   answer_len is under 4,608
  *   12   transcript_len is under 16,384
  *   13   nonce_len is not 32
- *   14   the state is out of its bounds for this image, or state_len is not 8
+ *   14   the state is out of its bounds for this image, or state_len is not 9
  * (15 and 16 are not given.) Afterwards state, transcript and answer are as they were.
  *
  * Without a number the length is that of the answer, which stands at the start of `answer`; the bytes past it are as
@@ -147,7 +156,8 @@ extern "C" {
  *   were written. State and transcript are as they were, but for this: a GET_MEASUREMENTS (request[1] is 0xE0) that is
  *   refused because it is shorter than its layout or a field is wrong, for its answer's size or for want of room
  *   empties M: state[SPDM_STATE_M] is 0, and no byte of the transcript is changed. The ERROR tells: this is so exactly
- *   where its code answer[2] is 0x01, 0x0D or 0x05 and request_len is 4 or more.
+ *   where its code answer[2] is 0x01, 0x0D or 0x05 and request_len is 4 to 4,608. (Under 1.1 a longer one gets 0x01 for
+ *   its length, and M stays.)
  *   After an accepted request: `answer` holds the answer, the request (as far as its layout goes) and the answer were
  *   appended to the transcript, where no other byte was changed, and `state` is the next state. Where
  *   state[SPDM_STATE_AWAITED] is not 0 afterwards, the answer must not be sent yet: its signature is zeros, to be
@@ -171,14 +181,14 @@ uint32_t spdm_respond(const uint8_t *image, uint64_t image_len,
  *   1-8  the image has this fault
  *   11   answer_len is under 4,608
  *   12   transcript_len is under 16,384
- *   14   the state is out of its bounds for this image, or state_len is not 8
+ *   14   the state is out of its bounds for this image, or state_len is not 9
  *   15   no signature is awaited
  *   16   the chip succeeded, and signature_len is not the image's S
  * (13 is not given.) Afterwards state and buffers are as they were: a signature is still awaited if it was.
  *
  * Without a number:
  *   If the chip succeeded, the signature stands at the end of the awaited answer, and the length is that answer's.
- *   If it failed, 12 7F 05 00 stands at the start of `answer`, and the length is 4.
+ *   If it failed, 12 7F 05 00 (under 1.1: 11 7F 05 00) stands at the start of `answer`, and the length is 4.
  * No other byte of `answer` was changed. The transcript is never written. In `state` nothing is awaited any more, and B
  * (after a CHALLENGE) or M (after a GET_MEASUREMENTS) is empty: words 4 or 5, 6 and 7 are 0, the others as they were.
  */
@@ -190,22 +200,28 @@ uint32_t spdm_finish(const uint8_t *image, uint64_t image_len,
                      const uint8_t *signature, uint64_t signature_len);
 
 /*
- * Shows what to hash and sign for the awaited signature: the hash runs over A and then B (or M), and the signature over
- * the prefix followed by that hash.
+ * Shows what to hash and sign for the awaited signature. The hash runs over two parts of the transcript, one after the
+ * other, and the signature covers the prefix followed by that hash:
+ *   under 1.2  A, then B (or M); a prefix of 100 bytes
+ *   under 1.1  A, then B; or for a GET_MEASUREMENTS M alone, after an empty part; no prefix
+ * The length tells which: with 100 the prefix and the hash are the message to be signed; with 0 the hash itself is the
+ * digest to be signed, and is not hashed again (docs/HOST.md, "What is signed"). A host need not look at the edition.
  *
  * Numbers, the first that holds, in this order:
- *   11   prefix_len is under 100, or parts_len under 4
- *   14   state_len is not 8, or the state is out of its bounds, of which those are tested that need no image: phase 0
- *        to 3; A, B, M at most 512, 8,192, 7,680 bytes; in phases 2 and 3 a peer's size of at least 42; in phases 0, 1,
- *        2 exactly 0, 12, 52 bytes of A, and none of B and M; selection 0 or 1, and 1 only in phase 3; awaited 0, 1 or
- *        2, and 1 or 2 only in phase 3, with an answer's length of at most 4,608
+ *   11   prefix_len is under 100, or parts_len under 4, under either edition
+ *   14   state_len is not 9, or the state is out of its bounds, of which those are tested that need no image: phase 0
+ *        to 3; A, B, M at most 512, 8,192, 7,680 bytes; edition 0 in phases 0 and 1, and 0x11 or 0x12 in phases 2 and
+ *        3, 0x11 with a peer's size of exactly 4,608, 0x12 of at least 42; exactly 0, 14 bytes of A in phases 0, 1, and
+ *        in phase 2 38 (0x11) or 54 (0x12), and in all three none of B and M; selection 0 or 1, and 1 only in phase 3;
+ *        awaited 0, 1 or 2, and 1 or 2 only in phase 3, with an answer's length of at most 4,608
  *   15   no signature is awaited
  * (No others are given.) Afterwards prefix and parts are as they were.
  *
- * Without a number the length is 100: the first 100 bytes of `prefix` are the prefix, and the first 4 words of `parts`
- * are offset and length in the transcript of A, then of B (or M). What lies past them is as it was. The state is never
- * written. For the same state spdm_respond and spdm_finish give 14 only for what goes by the image lent to them: a
- * selection where it has no measurements, or an awaited answer shorter than 4 + S.
+ * Without a number the length is that of the prefix, 100 or 0: so many bytes at the start of `prefix` are the prefix
+ * (with 0 all of it is as it was), and the first 4 words of `parts` are offset and length in the transcript of the
+ * first part, then of the second. What lies past them is as it was. The state is never written. For the same state
+ * spdm_respond and spdm_finish give 14 only for what goes by the image lent to them: a selection where it has no
+ * measurements, or an awaited answer shorter than 4 + S.
  */
 uint32_t spdm_to_sign(const uint32_t *state, uint64_t state_len,
                       uint8_t *prefix, uint64_t prefix_len,

@@ -60,7 +60,7 @@ static void put_words(const char *name, const uint32_t *words, uint32_t count)
 static void put_bytes(const char *name, const uint8_t *bytes, uint32_t length)
 {
     put(name);
-    put(" ");
+    put(length == 0 ? " -" : " ");
     put_hex(bytes, length);
     put("\n");
 }
@@ -150,21 +150,28 @@ APART static uint32_t image_algorithms(uint32_t *algorithms)
     1, 2, 3, 4, 5, 6, 7, 8, 9, 10, 11, 12, 13, 14, 15, 16,                                                             \
     17, 18, 19, 20, 21, 22, 23, 24, 25, 26, 27, 28, 29, 30, 31, 32
 
+// The version byte of all but GET_VERSION is put in when a request is asked.
 static const uint8_t get_version[] = {0x10, SPDM_GET_VERSION, 0, 0};
-static const uint8_t get_capabilities[20] = {0x12, SPDM_GET_CAPABILITIES, [13] = 0x12, [17] = 0x12};
-static const uint8_t negotiate_algorithms[32] = {0x12, SPDM_NEGOTIATE_ALGORITHMS, 0, 0, 32, 0, 1, 0,
+static const uint8_t get_capabilities[20] = {0, SPDM_GET_CAPABILITIES, [13] = 0x12, [17] = 0x12};
+static const uint8_t get_capabilities_1_1[12] = {0, SPDM_GET_CAPABILITIES};
+static const uint8_t negotiate_algorithms[32] = {0, SPDM_NEGOTIATE_ALGORITHMS, 0, 0, 32, 0, 1, 0,
     0xFF, 1, 0, 0, 0x3F, 0, 0, 0};
-static const uint8_t get_digests[] = {0x12, SPDM_GET_DIGESTS, 0, 0};
-static const uint8_t get_certificate[] = {0x12, SPDM_GET_CERTIFICATE, 0, 0, 0, 0, 34, 0};
-static const uint8_t get_certificate_rest[] = {0x12, SPDM_GET_CERTIFICATE, 0, 0, 34, 0, 34, 0};
-static const uint8_t get_certificate_past[] = {0x12, SPDM_GET_CERTIFICATE, 0, 0, 37, 0, 34, 0};
-static const uint8_t challenge[] = {0x12, SPDM_CHALLENGE, 0, 0xFF, NONCE};
-static const uint8_t get_measurements[] = {0x12, SPDM_GET_MEASUREMENTS, 1, 0xFF, NONCE, 0};
+static const uint8_t get_digests[] = {0, SPDM_GET_DIGESTS, 0, 0};
+static const uint8_t get_certificate[] = {0, SPDM_GET_CERTIFICATE, 0, 0, 0, 0, 34, 0};
+static const uint8_t get_certificate_rest[] = {0, SPDM_GET_CERTIFICATE, 0, 0, 34, 0, 34, 0};
+static const uint8_t get_certificate_past[] = {0, SPDM_GET_CERTIFICATE, 0, 0, 37, 0, 34, 0};
+static const uint8_t challenge[] = {0, SPDM_CHALLENGE, 0, 0xFF, NONCE};
+static const uint8_t get_measurements[] = {0, SPDM_GET_MEASUREMENTS, 1, 0xFF, NONCE, 0};
 
-static void ask(const char *name, const uint8_t *request, uint32_t length)
+static void ask(const char *name, uint8_t edition, const uint8_t *request, uint32_t length)
 {
     static const uint8_t nonce[SPDM_NONCE_LEN] = {NONCE};
-    const uint32_t result = respond(request, length, nonce);
+    static uint8_t asked[64];
+    for (uint32_t i = 0; i < length; i++)
+        asked[i] = request[i];
+    if (asked[0] == 0)
+        asked[0] = edition;
+    const uint32_t result = respond(asked, length, nonce);
     put_result(name, result);
     put_bytes("  answer", answer, SPDM_LENGTH(result));
     put_words("  state", state, SPDM_STATE_WORDS);
@@ -175,8 +182,9 @@ static void sign(uint32_t chip_ok)
 {
     uint8_t prefix[SPDM_PREFIX_LEN], signature[64];
     uint32_t parts[SPDM_PARTS_WORDS];
-    put_result("spdm_to_sign", to_sign(prefix, parts));
-    put_bytes("  prefix", prefix, SPDM_PREFIX_LEN);
+    const uint32_t shown = to_sign(prefix, parts);
+    put_result("spdm_to_sign", shown);
+    put_bytes("  prefix", prefix, SPDM_LENGTH(shown));
     put_words("  parts", parts, SPDM_PARTS_WORDS);
     put_bytes("  first", transcript + parts[SPDM_PARTS_FIRST_OFFSET], parts[SPDM_PARTS_FIRST_LENGTH]);
     put_bytes("  second", transcript + parts[SPDM_PARTS_SECOND_OFFSET], parts[SPDM_PARTS_SECOND_LENGTH]);
@@ -188,7 +196,42 @@ static void sign(uint32_t chip_ok)
     put_words("  state", state, SPDM_STATE_WORDS);
 }
 
-#define ASK(request) ask(#request, request, sizeof request)
+#define ASK(edition, request) ask(#request, edition, request, sizeof request)
+
+static void converse_1_2(void)
+{
+    const uint8_t edition = SPDM_EDITION_1_2;
+    ASK(edition, get_version);
+    ASK(edition, get_capabilities);
+    ASK(edition, negotiate_algorithms);
+    ASK(edition, get_digests);
+    ASK(edition, get_certificate);
+    ASK(edition, get_certificate_rest);
+    ASK(edition, get_certificate_past);
+    ASK(edition, challenge);
+    sign(1);
+    ASK(edition, get_measurements);
+    sign(1);
+    ASK(edition, challenge);
+    sign(0);
+}
+
+// A request of 1.2 in between is refused.
+static void converse_1_1(void)
+{
+    const uint8_t edition = SPDM_EDITION_1_1;
+    ASK(edition, get_version);
+    ASK(edition, get_capabilities_1_1);
+    ASK(edition, negotiate_algorithms);
+    ASK(SPDM_EDITION_1_2, get_digests);
+    ASK(edition, get_digests);
+    ASK(edition, challenge);
+    sign(1);
+    ASK(edition, get_measurements);
+    sign(1);
+    ASK(edition, get_measurements);
+    sign(0);
+}
 
 void converse(void)
 {
@@ -198,19 +241,8 @@ void converse(void)
     put_result("spdm_read_image", read_image());
     put_result("spdm_image_algorithms", image_algorithms(algorithms));
     put_words("  algorithms", algorithms, SPDM_ALGORITHMS_WORDS);
-    ASK(get_version);
-    ASK(get_capabilities);
-    ASK(negotiate_algorithms);
-    ASK(get_digests);
-    ASK(get_certificate);
-    ASK(get_certificate_rest);
-    ASK(get_certificate_past);
-    ASK(challenge);
-    sign(1);
-    ASK(get_measurements);
-    sign(1);
-    ASK(challenge);
-    sign(0);
+    converse_1_2();
+    converse_1_1();
     for (unsigned call = 0; call < CALLS; call++)
         put_words(calls[call], &deepest[call], 1);
 }

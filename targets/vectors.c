@@ -13,7 +13,7 @@
 #include <unistd.h>
 
 enum { IMAGE_ROOM = 40960, TRANSCRIPT_ROOM = 20480, ANSWER_ROOM = 8192, REQUEST_ROOM = 12288, SMALL_ROOM = 4096 };
-enum { IMAGES = 8, FIELDS = 16 };
+enum { IMAGES = 64, FIELDS = 16, STATE_SIZE = 4 * SPDM_STATE_WORDS };
 
 struct bytes {
     uint8_t *at;
@@ -91,20 +91,20 @@ static void take(struct pen *pen, void *bytes, size_t length)
     seen = crc_on(seen, bytes, length);
 }
 
-static uint32_t respond(struct bytes image, uint32_t state[8], struct bytes transcript, struct bytes answer,
-    struct bytes request, struct bytes nonce)
+static uint32_t respond(struct bytes image, uint32_t state[SPDM_STATE_WORDS], struct bytes transcript,
+    struct bytes answer, struct bytes request, struct bytes nonce)
 {
     const uint8_t *lent_image = lend(&image_pen, image.at, image.length);
-    uint32_t *lent_state = lend(&state_pen, state, 32);
+    uint32_t *lent_state = lend(&state_pen, state, STATE_SIZE);
     uint8_t *lent_transcript = lend(&transcript_pen, transcript.at, transcript.length);
     uint8_t *lent_answer = lend(&answer_pen, answer.at, answer.length);
     const uint8_t *lent_request = lend(&request_pen, request.at, request.length);
     const uint8_t *lent_nonce = lend(&nonce_pen, nonce.at, nonce.length);
-    const uint32_t result = given(spdm_respond(lent_image, image.length + more[0], lent_state, 8 + more[1],
-        lent_transcript, transcript.length + more[2], lent_answer, answer.length + more[3],
+    const uint32_t result = given(spdm_respond(lent_image, image.length + more[0], lent_state,
+        SPDM_STATE_WORDS + more[1], lent_transcript, transcript.length + more[2], lent_answer, answer.length + more[3],
         lent_request, request.length + more[4], lent_nonce, nonce.length + more[5]));
     take(&image_pen, image.at, 0);
-    take(&state_pen, state, 32);
+    take(&state_pen, state, STATE_SIZE);
     take(&transcript_pen, transcript.at, transcript.length);
     take(&answer_pen, answer.at, answer.length);
     take(&request_pen, request.at, 0);
@@ -112,33 +112,34 @@ static uint32_t respond(struct bytes image, uint32_t state[8], struct bytes tran
     return result;
 }
 
-static uint32_t finish(struct bytes image, uint32_t state[8], struct bytes transcript, struct bytes answer,
-    uint32_t chip_ok, struct bytes signature)
+static uint32_t finish(struct bytes image, uint32_t state[SPDM_STATE_WORDS], struct bytes transcript,
+    struct bytes answer, uint32_t chip_ok, struct bytes signature)
 {
     const uint8_t *lent_image = lend(&image_pen, image.at, image.length);
-    uint32_t *lent_state = lend(&state_pen, state, 32);
+    uint32_t *lent_state = lend(&state_pen, state, STATE_SIZE);
     const uint8_t *lent_transcript = lend(&fixed_transcript_pen, transcript.at, transcript.length);
     uint8_t *lent_answer = lend(&answer_pen, answer.at, answer.length);
     const uint8_t *lent_signature = lend(&signature_pen, signature.at, signature.length);
-    const uint32_t result = given(spdm_finish(lent_image, image.length + more[0], lent_state, 8 + more[1],
-        lent_transcript, transcript.length + more[2], lent_answer, answer.length + more[3], chip_ok,
-        lent_signature, signature.length + more[4]));
+    const uint32_t result = given(spdm_finish(lent_image, image.length + more[0], lent_state,
+        SPDM_STATE_WORDS + more[1], lent_transcript, transcript.length + more[2], lent_answer, answer.length + more[3],
+        chip_ok, lent_signature, signature.length + more[4]));
     take(&image_pen, image.at, 0);
-    take(&state_pen, state, 32);
+    take(&state_pen, state, STATE_SIZE);
     take(&fixed_transcript_pen, transcript.at, 0);
     take(&answer_pen, answer.at, answer.length);
     take(&signature_pen, signature.at, 0);
     return result;
 }
 
-static uint32_t to_sign(const uint32_t state[8], uint8_t prefix[SPDM_PREFIX_LEN], uint32_t parts[SPDM_PARTS_WORDS])
+static uint32_t to_sign(const uint32_t state[SPDM_STATE_WORDS], uint8_t prefix[SPDM_PREFIX_LEN],
+    uint32_t parts[SPDM_PARTS_WORDS])
 {
-    uint32_t words[8];
-    const uint32_t *lent_state = lend(&fixed_state_pen, state, 32);
+    uint32_t words[SPDM_STATE_WORDS];
+    const uint32_t *lent_state = lend(&fixed_state_pen, state, STATE_SIZE);
     uint8_t *lent_prefix = lend(&prefix_pen, prefix, SPDM_PREFIX_LEN);
     uint32_t *lent_parts = lend(&parts_pen, parts, 4 * SPDM_PARTS_WORDS);
-    const uint32_t result = given(spdm_to_sign(lent_state, 8 + more[0], lent_prefix, SPDM_PREFIX_LEN + more[1],
-        lent_parts, SPDM_PARTS_WORDS + more[2]));
+    const uint32_t result = given(spdm_to_sign(lent_state, SPDM_STATE_WORDS + more[0], lent_prefix,
+        SPDM_PREFIX_LEN + more[1], lent_parts, SPDM_PARTS_WORDS + more[2]));
     take(&fixed_state_pen, words, 0);
     take(&prefix_pen, prefix, SPDM_PREFIX_LEN);
     take(&parts_pen, parts, 4 * SPDM_PARTS_WORDS);
@@ -263,12 +264,16 @@ static struct {
     unsigned image_count;
     uint8_t transcript[TRANSCRIPT_ROOM];
     size_t transcript_length;
-    uint32_t state[8];
+    uint32_t state[SPDM_STATE_WORDS];
     uint8_t kept[ANSWER_ROOM]; // the answer that awaits a signature, as the host keeps it
     size_t kept_length;
     uint32_t result;
     uint8_t answer[ANSWER_ROOM], before[ANSWER_ROOM];
     size_t answer_length;
+    uint32_t shown; // spdm_to_sign's result for the state that the last call left, and what it wrote
+    uint8_t prefix[SPDM_PREFIX_LEN];
+    uint32_t parts[SPDM_PARTS_WORDS];
+    bool hash_due; // an H line comes next
 } run;
 
 static void keep(const uint8_t *bytes, size_t length)
@@ -317,28 +322,45 @@ static struct bytes lent_answer(const char *length, bool finishing)
     return (struct bytes){run.answer, run.answer_length};
 }
 
-// What spdm_to_sign shows for the state that a call left.
+// What spdm_to_sign shows for the state that a call left. Past the prefix, all of it under 1.1, it writes nothing.
 static void check_to_sign(void)
 {
-    uint8_t prefix[SPDM_PREFIX_LEN] = {0};
-    uint32_t parts[SPDM_PARTS_WORDS] = {0};
+    uint8_t filled[SPDM_PREFIX_LEN];
     const uint32_t *state = run.state, whose = state[SPDM_STATE_AWAITED];
-    const uint32_t result = to_sign(state, prefix, parts);
-    const bool challenge = whose == SPDM_AWAITS_CHALLENGE;
-    const uint32_t wanted[] = {0, state[SPDM_STATE_A], challenge ? 512 : 8704,
+    const bool challenge = whose == SPDM_AWAITS_CHALLENGE, old = state[SPDM_STATE_EDITION] == SPDM_EDITION_1_1;
+    const uint32_t wanted[] = {0, old && !challenge ? 0 : state[SPDM_STATE_A], challenge ? 512 : 8704,
         challenge ? state[SPDM_STATE_B] : state[SPDM_STATE_M]};
-    const char *context = challenge ? "responder-challenge_auth signing" : "responder-measurements signing";
+    memset(filled, (int)line_number, sizeof filled);
+    memcpy(run.prefix, filled, sizeof filled);
+    memset(run.parts, 0, sizeof run.parts);
+    run.shown = to_sign(state, run.prefix, run.parts);
+    run.hash_due = SPDM_NUMBER(run.result) == 0 && whose != 0;
+    const size_t length = SPDM_LENGTH(run.shown);
+    demand(length <= SPDM_PREFIX_LEN, "spdm_to_sign: the prefix's length");
+    demand(length > SPDM_PREFIX_LEN || memcmp(run.prefix + length, filled + length, SPDM_PREFIX_LEN - length) == 0,
+        "spdm_to_sign: a byte past the prefix");
+    if (run.hash_due)
+        demand(memcmp(run.parts, wanted, sizeof run.parts) == 0, "spdm_to_sign: the parts");
     // After a number the state may be out of its bounds: the checksum alone tells what is shown then.
-    if (SPDM_NUMBER(run.result) != 0)
-        return;
-    if (whose == 0) {
-        demand(SPDM_NUMBER(result) == SPDM_NOTHING_AWAITED, "spdm_to_sign: nothing is awaited");
-        return;
+    else if (SPDM_NUMBER(run.result) == 0)
+        demand(SPDM_NUMBER(run.shown) == SPDM_NOTHING_AWAITED, "spdm_to_sign: nothing is awaited");
+}
+
+// The prefix's length, how many bytes are hashed, and the CRC of all of them.
+static void check_hash(char *fields[FIELDS])
+{
+    const size_t length = SPDM_LENGTH(run.shown);
+    uint32_t crc = crc_on(0xFFFFFFFF, run.prefix, length <= SPDM_PREFIX_LEN ? length : 0);
+    uint64_t hashed = 0;
+    for (unsigned part = 0; part < SPDM_PARTS_WORDS; part += 2) {
+        const uint64_t start = run.parts[part], count = run.parts[part + 1];
+        hashed += count;
+        if (start + count <= run.transcript_length)
+            crc = crc_on(crc, run.transcript + start, count);
     }
-    const size_t start = SPDM_PREFIX_LEN - strlen(context);
-    demand(result == SPDM_PREFIX_LEN, "spdm_to_sign");
-    demand(memcmp(parts, wanted, sizeof parts) == 0, "spdm_to_sign: the parts");
-    demand(memcmp(prefix + start, context, strlen(context)) == 0, "spdm_to_sign: the prefix");
+    demand(run.shown == number(fields[1]), "spdm_to_sign");
+    demand(hashed == number(fields[2]), "spdm_to_sign: how much is hashed");
+    demand(~crc == strtoul(fields[3], NULL, 16), "spdm_to_sign: what is signed");
 }
 
 static void check_result(char *fields[FIELDS])
@@ -351,10 +373,10 @@ static void check_result(char *fields[FIELDS])
     demand(length == wanted.length && memcmp(run.answer, wanted.at, length) == 0, "the answer");
     demand(length > run.answer_length || memcmp(run.answer + length, run.before + length,
         run.answer_length - length) == 0, "a byte past the answer");
-    for (unsigned i = 0; i < 8; i++)
+    for (unsigned i = 0; i < SPDM_STATE_WORDS; i++)
         demand(run.state[i] == number(fields[3 + i]), "the state");
-    demand(~crc_on(0xFFFFFFFF, run.transcript, run.transcript_length) == strtoul(fields[11], NULL, 16),
-        "the transcript");
+    demand(~crc_on(0xFFFFFFFF, run.transcript, run.transcript_length)
+        == strtoul(fields[3 + SPDM_STATE_WORDS], NULL, 16), "the transcript");
     check_to_sign();
     if (run.state[SPDM_STATE_AWAITED] == 0)
         run.kept_length = 0;
@@ -366,6 +388,8 @@ static void run_line(char *fields[FIELDS], unsigned count)
 {
     static uint8_t request[REQUEST_ROOM], small[SMALL_ROOM];
     const char kind = fields[0][0];
+    demand(run.hash_due == (kind == 'H'), "an H line exactly where a signature is awaited");
+    run.hash_due = false;
     if (kind == 'I' && count == 3) {
         new_image(fields[1], fields[2]);
     } else if (kind == 'T' && count == 3) {
@@ -374,8 +398,8 @@ static void run_line(char *fields[FIELDS], unsigned count)
             stop("a transcript too long");
         for (size_t i = 0; i < run.transcript_length; i++)
             run.transcript[i] = (uint8_t)(number(fields[2]) + 13 * i);
-    } else if (kind == 'S' && count == 9) {
-        for (unsigned i = 0; i < 8; i++)
+    } else if (kind == 'S' && count == 1 + SPDM_STATE_WORDS) {
+        for (unsigned i = 0; i < SPDM_STATE_WORDS; i++)
             run.state[i] = number(fields[1 + i]);
         keep(NULL, run.state[SPDM_STATE_AWAITED] != 0 ? run.state[SPDM_STATE_ANSWER] : 0);
     } else if (kind == 'R' && count == 6) {
@@ -385,8 +409,10 @@ static void run_line(char *fields[FIELDS], unsigned count)
     } else if (kind == 'F' && count == 6) {
         run.result = finish(image_named(fields[1]), run.state, lent_transcript(fields[3]), lent_answer(fields[2], true),
             number(fields[4]), unhex(fields[5], small, sizeof small));
-    } else if (kind == '=' && count == 12) {
+    } else if (kind == '=' && count == 4 + SPDM_STATE_WORDS) {
         check_result(fields);
+    } else if (kind == 'H' && count == 4) {
+        check_hash(fields);
     } else {
         stop("not understood");
     }
@@ -408,19 +434,19 @@ static void check_asked(struct bytes image)
     static uint8_t version[] = {0x10, SPDM_GET_VERSION, 0, 0}, nonce[SPDM_NONCE_LEN];
     const struct bytes request = {version, sizeof version}, nonce_lent = {nonce, sizeof nonce};
     for (unsigned i = 0; i < 6; i++) {
-        uint32_t state[8] = {0};
+        uint32_t state[SPDM_STATE_WORDS] = {0};
         const uint32_t result = LONG(i, respond(image, state, transcript_lent, answer_lent, request, nonce_lent));
         demand(SPDM_NUMBER(result) == numbers[i], "spdm_respond with a long length");
         demand(i != 4 || long_answer[2] == SPDM_ERROR_REQUEST_TOO_LARGE, "spdm_respond with a long request");
     }
 }
 
-static void check_signed(struct bytes image, uint32_t size)
+static void check_signed(struct bytes image, uint32_t size, uint32_t edition)
 {
     static const unsigned numbers[] = {SPDM_IMAGE_SIZE, SPDM_WRONG_STATE, 0, 0, SPDM_WRONG_SIGNATURE};
-    const uint32_t awaiting[8] = {3, 4608, 0, 120, 100, 0, SPDM_AWAITS_CHALLENGE, 4 + size};
+    const uint32_t awaiting[SPDM_STATE_WORDS] = {3, 4608, 0, 120, 100, 0, SPDM_AWAITS_CHALLENGE, 4 + size, edition};
     const struct bytes signature = {long_signature, size};
-    uint32_t state[8];
+    uint32_t state[SPDM_STATE_WORDS];
     for (unsigned i = 0; i < 5; i++) {
         memcpy(state, awaiting, sizeof state);
         const uint32_t result = LONG(i, finish(image, state, transcript_lent, answer_lent, 1, signature));
@@ -446,7 +472,8 @@ static void check_lengths(void)
         "spdm_image_algorithms with a long image");
     demand(LONG(1, image_algorithms(image, algorithms)) == 0, "spdm_image_algorithms with a long length");
     check_asked(image);
-    check_signed(image, algorithms[SPDM_ALGORITHMS_SIGNATURE_SIZE]);
+    check_signed(image, algorithms[SPDM_ALGORITHMS_SIGNATURE_SIZE], SPDM_EDITION_1_1);
+    check_signed(image, algorithms[SPDM_ALGORITHMS_SIGNATURE_SIZE], SPDM_EDITION_1_2);
 }
 
 // ---- The pens hold: what a call must not do faults here too
@@ -497,6 +524,7 @@ int main(int count, char **arguments)
     for (place = AT_END; place <= AT_START; place++) {
         each_line(arguments[1], image_line);
         each_line(arguments[2], run_line);
+        demand(!run.hash_due, "an H line is missing at the end");
         check_lengths();
     }
     printf("%lu calls, %lu differences, checksum %08" PRIx32 "\n", calls, differences, ~seen);

@@ -35,27 +35,36 @@ static bool plain_signature(const uint8_t *der, size_t der_len, uint8_t *signatu
     return good;
 }
 
-// The chip's part, steps 4 and 5: hash A, then B or M, and sign the prefix followed by that hash.
+// The hash of some bytes followed by others.
+static bool hash_both(const uint8_t *first, size_t first_len, const uint8_t *second, size_t second_len, uint8_t *digest)
+{
+    EVP_MD_CTX *hasher = EVP_MD_CTX_new();
+    const bool good = hasher && EVP_DigestInit_ex(hasher, hash, NULL) == 1
+        && EVP_DigestUpdate(hasher, first, first_len) == 1 && EVP_DigestUpdate(hasher, second, second_len) == 1
+        && EVP_DigestFinal_ex(hasher, digest, NULL) == 1;
+    EVP_MD_CTX_free(hasher);
+    return good;
+}
+
+// The chip's part, steps 4 and 5: sign the prefix, if there is one, followed by the hash of both parts.
 static bool sign(uint8_t *signature)
 {
-    uint8_t message[SPDM_PREFIX_LEN + SPDM_HASH_MAX], der[256];
+    uint8_t prefix[SPDM_PREFIX_LEN], digest[SPDM_HASH_MAX], der[256];
     uint32_t parts[SPDM_PARTS_WORDS];
+    const size_t digest_len = algorithms[SPDM_ALGORITHMS_HASH_SIZE];
     size_t der_len = sizeof der;
-    if (SPDM_NUMBER(spdm_to_sign(state, SPDM_STATE_WORDS, message, SPDM_PREFIX_LEN, parts, SPDM_PARTS_WORDS)) != 0)
+    const uint32_t r = spdm_to_sign(state, SPDM_STATE_WORDS, prefix, sizeof prefix, parts, SPDM_PARTS_WORDS);
+    if (SPDM_NUMBER(r) != 0)
         return false;
     const uint8_t *first = transcript + parts[SPDM_PARTS_FIRST_OFFSET];
     const uint8_t *second = transcript + parts[SPDM_PARTS_SECOND_OFFSET];
-    const size_t message_len = SPDM_PREFIX_LEN + algorithms[SPDM_ALGORITHMS_HASH_SIZE];
-    EVP_MD_CTX *hasher = EVP_MD_CTX_new(), *signer = EVP_MD_CTX_new();
-    const bool good = hasher && signer && EVP_DigestInit_ex(hasher, hash, NULL) == 1
-        && EVP_DigestUpdate(hasher, first, parts[SPDM_PARTS_FIRST_LENGTH]) == 1
-        && EVP_DigestUpdate(hasher, second, parts[SPDM_PARTS_SECOND_LENGTH]) == 1
-        && EVP_DigestFinal_ex(hasher, message + SPDM_PREFIX_LEN, NULL) == 1
-        && EVP_DigestSignInit(signer, NULL, hash, NULL, key) == 1
-        && EVP_DigestSign(signer, der, &der_len, message, message_len) == 1
-        && plain_signature(der, der_len, signature);
-    EVP_MD_CTX_free(hasher);
-    EVP_MD_CTX_free(signer);
+    bool good = hash_both(first, parts[SPDM_PARTS_FIRST_LENGTH], second, parts[SPDM_PARTS_SECOND_LENGTH], digest);
+    if (SPDM_LENGTH(r) != 0) // 100; under 1.1 it is 0, and the hash is signed as it is
+        good = good && hash_both(prefix, SPDM_LENGTH(r), digest, digest_len, digest);
+    EVP_PKEY_CTX *signer = EVP_PKEY_CTX_new(key, NULL);
+    good = good && signer && EVP_PKEY_sign_init(signer) == 1
+        && EVP_PKEY_sign(signer, der, &der_len, digest, digest_len) == 1 && plain_signature(der, der_len, signature);
+    EVP_PKEY_CTX_free(signer);
     return good;
 }
 

@@ -22,13 +22,17 @@ pub const A_ROOM: usize = 512;
 pub const B_ROOM: usize = 8_192;
 pub const M_ROOM: usize = 7_680;
 /// The words of a state.
-pub const STATE_WORDS: usize = 8;
+pub const STATE_WORDS: usize = 9;
 /// The one that counts the bytes of M.
 const M_USED: usize = 5;
-/// The bytes of the prefix to be signed.
+/// The bytes of the prefix to be signed, where there is one.
 pub const PREFIX: usize = 100;
 
+/// The header of every message; no request is shorter.
+const HEADER: usize = 4;
 const MIN_PEER_SIZE: u32 = 42;
+/// The peer's size where it tells none.
+const UNTOLD_PEER_SIZE: u32 = MAX_MESSAGE as u32;
 pub(crate) const MAX_CHAIN: usize = 4_096;
 const MAX_PORTION: usize = 1_024;
 pub(crate) const MAX_CHAINS: usize = 8;
@@ -41,6 +45,25 @@ const NONCE: usize = 32;
 
 pub(crate) const HASH_SIZES: [usize; 6] = [32, 48, 64, 32, 48, 64];
 pub(crate) const SIGNATURE_SIZES: [usize; 9] = [256, 256, 384, 384, 64, 512, 512, 96, 132];
+
+// Codes of the requests that are served.
+const GET_DIGESTS: u8 = 0x81;
+const GET_CERTIFICATE: u8 = 0x82;
+const CHALLENGE: u8 = 0x83;
+const GET_VERSION: u8 = 0x84;
+const GET_MEASUREMENTS: u8 = 0xE0;
+const GET_CAPABILITIES: u8 = 0xE1;
+const NEGOTIATE_ALGORITHMS: u8 = 0xE3;
+
+// Codes of the answers.
+const DIGESTS: u8 = 0x01;
+const CERTIFICATE: u8 = 0x02;
+const CHALLENGE_AUTH: u8 = 0x03;
+const VERSION: u8 = 0x04;
+const MEASUREMENTS: u8 = 0x60;
+const CAPABILITIES: u8 = 0x61;
+const ALGORITHMS: u8 = 0x63;
+const ERROR: u8 = 0x7F;
 
 /// The numbers the host sees.
 #[derive(Clone, Copy, Debug, PartialEq, Eq)]
@@ -335,6 +358,55 @@ impl<'a> Provision<'a> for Image<'a> {
     }
 }
 
+// ------------------------------------------------------------------------------------------- the editions
+
+/// The version byte while no edition is chosen: of GET_VERSION, of VERSION, and of ERRORs before CAPABILITIES.
+const UNCHOSEN: u8 = 0x10;
+
+/// What GET_CAPABILITIES chooses by its version byte, for all that follows it.
+#[derive(Clone, Copy, Debug, PartialEq, Eq)]
+enum Edition {
+    V1_1 = 0x11,
+    V1_2 = 0x12,
+}
+
+/// VERSION lists the editions, rising.
+const VERSION_ANSWER: [u8; 10] = [UNCHOSEN, VERSION, 0, 0, 0, 2, 0, Edition::V1_1 as u8, 0, Edition::V1_2 as u8];
+
+/// What A holds after it: 14.
+const A_AFTER_VERSION: usize = HEADER + VERSION_ANSWER.len();
+
+impl Edition {
+    fn from_byte(byte: u8) -> Option<Edition> {
+        [Edition::V1_1, Edition::V1_2].into_iter().find(|edition| edition.byte() == byte)
+    }
+
+    /// Its version byte.
+    fn byte(self) -> u8 {
+        self as u8
+    }
+
+    /// The bytes of GET_CAPABILITIES, and of CAPABILITIES. Those of 1.1 end before the two sizes.
+    fn capabilities_size(self) -> usize {
+        match self {
+            Edition::V1_1 => 12,
+            Edition::V1_2 => 20,
+        }
+    }
+
+    /// What A holds after CAPABILITIES: 38 or 54.
+    fn a_after_capabilities(self) -> usize {
+        A_AFTER_VERSION + 2 * self.capabilities_size()
+    }
+
+    fn allows_peer_size(self, size: u32) -> bool {
+        match self {
+            Edition::V1_1 => size == UNTOLD_PEER_SIZE,
+            Edition::V1_2 => size >= MIN_PEER_SIZE,
+        }
+    }
+}
+
 // ---------------------------------------------------------------------------------------------- the state
 
 /// Which answer awaits its signature.
@@ -362,6 +434,8 @@ enum Phase {
 #[derive(Clone, Copy, Debug)]
 struct State {
     phase: Phase,
+    /// Chosen in phases 2 and 3, and only there.
+    edition: Option<Edition>,
     peer_size: u32,
     selected: bool,
     a: usize,
@@ -371,6 +445,9 @@ struct State {
 }
 
 impl State {
+    const FRESH: State =
+        State { phase: Phase::Start, edition: None, peer_size: 0, selected: false, a: 0, b: 0, m: 0, awaited: None };
+
     /// Takes the host's words, unless they are outside their bounds.
     fn load<'i>(words: &[u32], image: &impl Provision<'i>) -> Result<State, Number> {
         Self::from_words(words).filter(|state| state.fits(image)).ok_or(Number::StateBounds)
@@ -379,26 +456,27 @@ impl State {
     /// The bounds that go by the image.
     fn fits<'i>(&self, image: &impl Provision<'i>) -> bool {
         (!self.selected || image.has_measurements())
-            && self.awaited.is_none_or(|awaited| 4 + image.signature_size() <= awaited.length)
+            && self.awaited.is_none_or(|awaited| HEADER + image.signature_size() <= awaited.length)
     }
 
     /// The bounds that need no image.
     fn from_words(words: &[u32]) -> Option<State> {
-        let &[phase, peer_size, selection, a, b, m, awaited, length] = words else {
+        let &[phase, peer_size, selection, a, b, m, awaited, length, edition] = words else {
             return None;
         };
         let (a, b, m) = region_counts(a, b, m)?;
-        let (phase, exact_a) = match phase {
-            0 => (Phase::Start, Some(0)),
-            1 => (Phase::Version, Some(12)),
-            2 => (Phase::Capabilities, Some(52)),
-            3 => (Phase::Negotiated, None),
+        let edition = chosen_edition(edition)?;
+        let (phase, exact_a) = match (phase, edition) {
+            (0, None) => (Phase::Start, Some(0)),
+            (1, None) => (Phase::Version, Some(A_AFTER_VERSION)),
+            (2, Some(edition)) => (Phase::Capabilities, Some(edition.a_after_capabilities())),
+            (3, Some(_)) => (Phase::Negotiated, None),
             _ => return None,
         };
         if exact_a.is_some_and(|exact| (a, b, m) != (exact, 0, 0)) {
             return None;
         }
-        if matches!(phase, Phase::Capabilities | Phase::Negotiated) && peer_size < MIN_PEER_SIZE {
+        if edition.is_some_and(|edition| !edition.allows_peer_size(peer_size)) {
             return None;
         }
         let selected = match selection {
@@ -414,7 +492,12 @@ impl State {
             }
             (Some(_), _) => return None,
         };
-        Some(State { phase, peer_size, selected, a, b, m, awaited })
+        Some(State { phase, edition, peer_size, selected, a, b, m, awaited })
+    }
+
+    /// The version byte of the answer that leads to this state, or that leaves it as an ERROR does.
+    fn version(&self) -> u8 {
+        self.edition.map_or(UNCHOSEN, Edition::byte)
     }
 
     /// Hands the state back to the host.
@@ -439,6 +522,7 @@ impl State {
             self.m as u32,
             awaited,
             length as u32,
+            self.edition.map_or(0, |edition| u32::from(edition.byte())),
         ]);
     }
 }
@@ -447,6 +531,14 @@ impl State {
 fn region_counts(a: u32, b: u32, m: u32) -> Option<(usize, usize, usize)> {
     let within = |count: u32, room: usize| usize::try_from(count).ok().filter(|&count| count <= room);
     Some((within(a, A_ROOM)?, within(b, B_ROOM)?, within(m, M_ROOM)?))
+}
+
+/// The state's word for the edition: `None` if it means nothing.
+fn chosen_edition(word: u32) -> Option<Option<Edition>> {
+    match u8::try_from(word).ok()? {
+        0 => Some(None),
+        byte => Edition::from_byte(byte).map(Some),
+    }
 }
 
 /// The state's word for what is awaited: `None` if it means nothing.
@@ -476,11 +568,7 @@ enum Refusal {
 
 impl Refusal {
     /// Writes the ERROR and gives its length.
-    fn write(self, phase: Phase, answer: &mut [u8]) -> usize {
-        let version = match phase {
-            Phase::Start | Phase::Version => 0x10,
-            Phase::Capabilities | Phase::Negotiated => 0x12,
-        };
+    fn write(self, state: &State, answer: &mut [u8]) -> usize {
         let (code, data) = match self {
             Refusal::InvalidRequest => (0x01, 0),
             Refusal::UnexpectedWhileAwaiting => (0x03, 0),
@@ -492,7 +580,7 @@ impl Refusal {
             Refusal::VersionMismatch => (0x41, 0),
         };
         let mut out = Writer::new(answer);
-        out.put(&[version, 0x7F, code, data]);
+        out.put(&[state.version(), ERROR, code, data]);
         if let Refusal::ResponseTooLarge(size) = self {
             out.put(&size.to_le_bytes());
         }
@@ -574,27 +662,38 @@ impl<'a, 'i, P: Provision<'i>> Exchange<'a, P> {
         let &[version, code, ..] = request else {
             return Err(Refusal::InvalidRequest);
         };
-        if request.len() < 4 {
+        if request.len() < HEADER {
             return Err(Refusal::InvalidRequest);
         }
         if request.len() > MAX_MESSAGE {
-            return Err(Refusal::RequestTooLarge);
+            return Err(match self.state.edition {
+                Some(Edition::V1_1) => Refusal::InvalidRequest,
+                Some(Edition::V1_2) | None => Refusal::RequestTooLarge,
+            });
         }
-        if self.state.awaited.is_some() && code != 0x84 {
+        if self.state.awaited.is_some() && code != GET_VERSION {
             return Err(Refusal::UnexpectedWhileAwaiting);
         }
         match code {
-            0x81 | 0x82 | 0x83 | 0x84 | 0xE1 | 0xE3 => {}
-            0xE0 if self.image.has_measurements() => {}
+            GET_VERSION | GET_CAPABILITIES | NEGOTIATE_ALGORITHMS => {}
+            GET_DIGESTS | GET_CERTIFICATE | CHALLENGE => {}
+            GET_MEASUREMENTS if self.image.has_measurements() => {}
             _ => return Err(Refusal::Unsupported(code)),
         }
-        if version != if code == 0x84 { 0x10 } else { 0x12 } {
+        let version_fits = match (code, self.state.edition) {
+            (GET_VERSION, _) => version == UNCHOSEN,
+            (_, None) => Edition::from_byte(version).is_some(),
+            (_, Some(edition)) => version == edition.byte(),
+        };
+        if !version_fits {
             return Err(Refusal::VersionMismatch);
         }
         match (code, self.state.phase) {
-            (0x84, _) | (0xE1, Phase::Version) | (0xE3, Phase::Capabilities) => Ok(code),
-            (0x81..=0x83, Phase::Negotiated) => Ok(code),
-            (0xE0, Phase::Negotiated) if self.state.selected => Ok(code),
+            (GET_VERSION, _) => Ok(code),
+            (GET_CAPABILITIES, Phase::Version) => Ok(code),
+            (NEGOTIATE_ALGORITHMS, Phase::Capabilities) => Ok(code),
+            (GET_DIGESTS | GET_CERTIFICATE | CHALLENGE, Phase::Negotiated) => Ok(code),
+            (GET_MEASUREMENTS, Phase::Negotiated) if self.state.selected => Ok(code),
             _ => Err(Refusal::Unexpected),
         }
     }
@@ -602,12 +701,12 @@ impl<'a, 'i, P: Provision<'i>> Exchange<'a, P> {
     /// Steps 7 to 9, and the answer.
     fn serve(self, code: u8) -> Served {
         match code {
-            0x84 => self.version(),
-            0xE1 => self.capabilities(),
-            0xE3 => self.algorithms(),
-            0x81 => self.digests(),
-            0x82 => self.certificate(),
-            0x83 => self.challenge(),
+            GET_VERSION => self.version(),
+            GET_CAPABILITIES => self.capabilities(),
+            NEGOTIATE_ALGORITHMS => self.algorithms(),
+            GET_DIGESTS => self.digests(),
+            GET_CERTIFICATE => self.certificate(),
+            CHALLENGE => self.challenge(),
             _ => self.measurements(),
         }
     }
@@ -665,32 +764,43 @@ impl<'a, 'i, P: Provision<'i>> Exchange<'a, P> {
     }
 
     fn version(mut self) -> Served {
-        let request = self.layout(4)?;
-        self.state = State { phase: Phase::Version, peer_size: 0, selected: false, a: 0, b: 0, m: 0, awaited: None };
+        let request = self.layout(HEADER)?;
+        self.state = State { phase: Phase::Version, ..State::FRESH };
         let mut out = Writer::new(self.answer);
-        out.put(&[0x10, 0x04, 0, 0, 0, 1, 0x00, 0x12]);
+        out.put(&VERSION_ANSWER);
         let length = out.at;
         self.append(Region::A, request, length);
         Ok(Accepted { state: self.state, length })
     }
 
     fn capabilities(mut self) -> Served {
-        let request = self.layout(20)?;
-        let (peer_size, peer_message) = (u32_at(request, 12), u32_at(request, 16));
-        if peer_size < MIN_PEER_SIZE || peer_message < peer_size {
-            return Err(Refusal::InvalidRequest);
-        }
+        // Step 5 has found one of the two in its place.
+        let edition = Edition::from_byte(self.request[0]).ok_or(Refusal::VersionMismatch)?;
+        let request = self.layout(edition.capabilities_size())?;
+        let peer_size = match edition {
+            Edition::V1_1 => UNTOLD_PEER_SIZE,
+            Edition::V1_2 => {
+                let (peer_size, peer_message) = (u32_at(request, 12), u32_at(request, 16));
+                if !edition.allows_peer_size(peer_size) || peer_message < peer_size {
+                    return Err(Refusal::InvalidRequest);
+                }
+                peer_size
+            }
+        };
+        self.state.phase = Phase::Capabilities;
+        self.state.edition = Some(edition);
+        self.state.peer_size = peer_size;
         let flags: u32 = if self.image.has_measurements() { 0x16 } else { 0x06 };
         let size = (MAX_MESSAGE as u32).to_le_bytes();
         let mut out = Writer::new(self.answer);
-        out.put(&[0x12, 0x61, 0, 0, 0, self.image.ct_exponent(), 0, 0]);
+        out.put(&[self.state.version(), CAPABILITIES, 0, 0, 0, self.image.ct_exponent(), 0, 0]);
         out.put(&flags.to_le_bytes());
-        out.put(&size);
-        out.put(&size);
+        if edition == Edition::V1_2 {
+            out.put(&size);
+            out.put(&size);
+        }
         let length = out.at;
         self.append(Region::A, request, length);
-        self.state.phase = Phase::Capabilities;
-        self.state.peer_size = peer_size;
         Ok(Accepted { state: self.state, length })
     }
 
@@ -713,7 +823,7 @@ impl<'a, 'i, P: Provision<'i>> Exchange<'a, P> {
         let selected = self.image.has_measurements() && head[6] & 1 != 0;
         let measurement_hash = if selected { 1u32 << (self.image.hash_number() + 1) } else { 0 };
         let mut out = Writer::new(self.answer);
-        out.put(&[0x12, 0x63, 0, 0, 36, 0, u8::from(selected), 0]);
+        out.put(&[self.state.version(), ALGORITHMS, 0, 0, 36, 0, u8::from(selected), 0]);
         out.put(&measurement_hash.to_le_bytes());
         out.put(&signature_bit.to_le_bytes());
         out.put(&hash_bit.to_le_bytes());
@@ -726,12 +836,12 @@ impl<'a, 'i, P: Provision<'i>> Exchange<'a, P> {
     }
 
     fn digests(mut self) -> Served {
-        let request = self.layout(4)?;
-        let length = 4 + self.image.hash_size() * self.image.chain_count();
+        let request = self.layout(HEADER)?;
+        let length = HEADER + self.image.hash_size() * self.image.chain_count();
         self.fits_peer(length)?;
         self.fits_region(Region::B, request.len() + length)?;
         let mut out = Writer::new(self.answer);
-        out.put(&[0x12, 0x01, 0, self.image.slot_mask()]);
+        out.put(&[self.state.version(), DIGESTS, 0, self.image.slot_mask()]);
         self.image.put_digests(&mut out);
         self.append(Region::B, request, length);
         Ok(Accepted { state: self.state, length })
@@ -753,7 +863,7 @@ impl<'a, 'i, P: Provision<'i>> Exchange<'a, P> {
         self.fits_peer(length)?;
         self.fits_region(Region::B, request.len() + length)?;
         let mut out = Writer::new(self.answer);
-        out.put(&[0x12, 0x02, slot.number(), 0]);
+        out.put(&[self.state.version(), CERTIFICATE, slot.number(), 0]);
         out.put(&(portion as u16).to_le_bytes());
         out.put(&(remainder as u16).to_le_bytes());
         out.put(&rest[..portion]);
@@ -770,12 +880,12 @@ impl<'a, 'i, P: Provision<'i>> Exchange<'a, P> {
             (0xFF, Some(summaries)) if self.state.selected => summaries.all,
             _ => return Err(Refusal::InvalidRequest),
         };
-        let unsigned = 4 + chain.digest.len() + NONCE + summary.len() + 2;
+        let unsigned = HEADER + chain.digest.len() + NONCE + summary.len() + 2;
         let length = unsigned + self.image.signature_size();
         self.fits_peer(length)?;
         self.fits_region(Region::B, request.len() + unsigned)?;
         let mut out = Writer::new(self.answer);
-        out.put(&[0x12, 0x03, slot.number(), self.image.slot_mask()]);
+        out.put(&[self.state.version(), CHALLENGE_AUTH, slot.number(), self.image.slot_mask()]);
         out.put(chain.digest);
         out.put(self.nonce);
         out.put(summary);
@@ -788,7 +898,7 @@ impl<'a, 'i, P: Provision<'i>> Exchange<'a, P> {
 
     fn measurements(mut self) -> Served {
         let signed = self.request[2] & 1 != 0;
-        let request = self.layout(if signed { 37 } else { 4 })?;
+        let request = self.layout(if signed { 37 } else { HEADER })?;
         let asked = request[3];
         let (one, blocks) = match asked {
             0 => (None, 0),
@@ -814,7 +924,7 @@ impl<'a, 'i, P: Provision<'i>> Exchange<'a, P> {
         let count = if asked == 0 { self.image.measurements().len() as u8 } else { 0 };
         let [record_0, record_1, record_2, _] = (record as u32).to_le_bytes();
         let mut out = Writer::new(self.answer);
-        out.put(&[0x12, 0x60, count, slot.map_or(0, Slot::number)]);
+        out.put(&[self.state.version(), MEASUREMENTS, count, slot.map_or(0, Slot::number)]);
         out.put(&[blocks as u8, record_0, record_1, record_2]);
         let mut block = |measurement: Measurement| {
             let ([size_0, size_1], [h_0, h_1]) = ((3 + h as u16).to_le_bytes(), (h as u16).to_le_bytes());
@@ -927,7 +1037,7 @@ pub(crate) fn try_respond<'i>(
     let exchange = Exchange { image, state, transcript, answer: &mut *answer, request, nonce };
     let code = match exchange.admit() {
         Ok(code) => code,
-        Err(refusal) => return Ok(refusal.write(state.phase, answer)),
+        Err(refusal) => return Ok(refusal.write(&state, answer)),
     };
     match exchange.serve(code) {
         Ok(accepted) => {
@@ -936,10 +1046,10 @@ pub(crate) fn try_respond<'i>(
         }
         Err(refusal) => {
             // Only M's count: the other words stay as they were handed in, the answer's length too.
-            if code == 0xE0 {
+            if code == GET_MEASUREMENTS {
                 words[M_USED] = 0;
             }
-            Ok(refusal.write(state.phase, answer))
+            Ok(refusal.write(&state, answer))
         }
     }
 }
@@ -980,12 +1090,12 @@ pub(crate) fn try_finish<'i>(
         answer[awaited.length - signature.len()..awaited.length].copy_from_slice(signature);
         Ok(awaited.length)
     } else {
-        Ok(Refusal::Unspecified.write(Phase::Negotiated, answer))
+        Ok(Refusal::Unspecified.write(&state, answer))
     }
 }
 
 /// Shows what is to be signed: the prefix, and where the two parts to hash lie in the transcript buffer (start
-/// and length of A, start and length of B or M).
+/// and length of A, start and length of B or M). Under 1.1 there is no prefix, and M is hashed alone: no byte of A.
 #[inline(never)]
 pub fn to_sign(state: &[u32], prefix: &mut [u8], parts: &mut [u32]) -> u32 {
     outcome(try_to_sign(state, prefix, parts))
@@ -996,17 +1106,25 @@ fn try_to_sign(words: &[u32], prefix: &mut [u8], parts: &mut [u32]) -> Result<us
         return Err(Number::AnswerBuffer);
     }
     let state = State::from_words(words).ok_or(Number::StateBounds)?;
-    let (context, start, used): (&[u8], usize, usize) = match state.awaited.map(|awaited| awaited.which) {
-        None => return Err(Number::NothingAwaited),
-        Some(Signed::Challenge) => (b"responder-challenge_auth signing", B_START, state.b),
-        Some(Signed::Measurements) => (b"responder-measurements signing", M_START, state.m),
+    let (Some(edition), Some(Awaited { which, .. })) = (state.edition, state.awaited) else {
+        return Err(Number::NothingAwaited);
     };
+    let (context, start, used): (&[u8], usize, usize) = match which {
+        Signed::Challenge => (b"responder-challenge_auth signing", B_START, state.b),
+        Signed::Measurements => (b"responder-measurements signing", M_START, state.m),
+    };
+    let hashed_a = match (edition, which) {
+        (Edition::V1_1, Signed::Measurements) => 0,
+        (Edition::V1_1, Signed::Challenge) | (Edition::V1_2, _) => state.a,
+    };
+    parts[..4].copy_from_slice(&[0, hashed_a as u32, start as u32, used as u32]);
     let mut out = Writer::new(prefix);
-    for _ in 0..4 {
-        out.put(b"dmtf-spdm-v1.2.*");
+    if edition == Edition::V1_2 {
+        for _ in 0..4 {
+            out.put(b"dmtf-spdm-v1.2.*");
+        }
+        out.zeros(PREFIX - out.at - context.len());
+        out.put(context);
     }
-    out.zeros(PREFIX - out.at - context.len());
-    out.put(context);
-    parts[..4].copy_from_slice(&[0, state.a as u32, start as u32, used as u32]);
-    Ok(PREFIX)
+    Ok(out.at)
 }

@@ -14,6 +14,25 @@ use spdm_check::{ffi, plain, tuned};
 const DEFAULT_SEED: u64 = 0x5350_444D_0001;
 const DEFAULT_CALLS: u64 = 200_000;
 
+/// A state's words, and the places of those that are looked at.
+type State = [u32; plain::STATE_WORDS];
+const PHASE: usize = 0;
+const PEER: usize = 1;
+const SELECTION: usize = 2;
+const A: usize = 3;
+const B: usize = 4;
+const M: usize = 5;
+const AWAITED: usize = 6;
+const LENGTH: usize = 7;
+const EDITION: usize = 8;
+const FRESH: State = [0; plain::STATE_WORDS];
+
+/// The editions, none included, as what was met is counted by them.
+const UNCHOSEN: usize = 0;
+const V1_1: usize = 1;
+const V1_2: usize = 2;
+const EDITIONS: [&str; 3] = ["none", "1.1", "1.2"];
+
 // ------------------------------------------------------------------------------------- the random numbers
 
 /// SplitMix64.
@@ -396,9 +415,18 @@ fn get_version(rng: &mut Rng) -> Vec<u8> {
     vec![0x10, 0x84, rng.byte(), rng.byte()]
 }
 
-fn get_capabilities(rng: &mut Rng, spec: &Spec) -> Vec<u8> {
+/// A version byte for any request but GET_VERSION: mostly the one that the connection has chosen, or may choose.
+fn some_version(rng: &mut Rng, state: &State) -> u8 {
+    match state[EDITION] {
+        _ if rng.one_in(30) => rng.pick(&[0x10, 0x11, 0x11, 0x12, 0x12, 0x13]),
+        chosen @ (0x11 | 0x12) => chosen as u8,
+        _ => rng.pick(&[0x11, 0x12]),
+    }
+}
+
+fn get_capabilities(rng: &mut Rng, spec: &Spec, version: u8) -> Vec<u8> {
     let mut request = rng.bytes(20);
-    request[..2].copy_from_slice(&[0x12, 0xE1]);
+    request[..2].copy_from_slice(&[version, 0xE1]);
     let size = match rng.below(8) {
         0 => 42,
         1 => rng.pick(&[43, 4_607, 4_608, 4_609, 65_535, 65_536, u32::MAX, 0x8000_0000]),
@@ -420,12 +448,16 @@ fn get_capabilities(rng: &mut Rng, spec: &Spec) -> Vec<u8> {
     };
     request[12..16].copy_from_slice(&size.to_le_bytes());
     request[16..20].copy_from_slice(&most.to_le_bytes());
+    if version == 0x11 {
+        // Its sizes, where they stand, are no part of it.
+        request.truncate(rng.pick(&[11, 12, 12, 12, 12, 13, 19, 20]));
+    }
     request
 }
 
-fn negotiate_algorithms(rng: &mut Rng, spec: &Spec) -> Vec<u8> {
+fn negotiate_algorithms(rng: &mut Rng, spec: &Spec, version: u8) -> Vec<u8> {
     let mut request = rng.bytes(32);
-    request[..2].copy_from_slice(&[0x12, 0xE3]);
+    request[..2].copy_from_slice(&[version, 0xE3]);
     let mut structures = Vec::new();
     let count = if rng.one_in(2) { 0 } else { rng.range(1, 4) };
     for kind in rising(rng, 2, 5, count) {
@@ -488,8 +520,8 @@ fn negotiate_algorithms(rng: &mut Rng, spec: &Spec) -> Vec<u8> {
     request
 }
 
-fn get_digests(rng: &mut Rng) -> Vec<u8> {
-    vec![0x12, 0x81, rng.byte(), rng.byte()]
+fn get_digests(rng: &mut Rng, version: u8) -> Vec<u8> {
+    vec![version, 0x81, rng.byte(), rng.byte()]
 }
 
 /// A slot number, mostly a filled one.
@@ -501,7 +533,7 @@ fn some_slot(rng: &mut Rng, spec: &Spec) -> u8 {
     }
 }
 
-fn get_certificate(rng: &mut Rng, spec: &Spec) -> Vec<u8> {
+fn get_certificate(rng: &mut Rng, spec: &Spec, version: u8) -> Vec<u8> {
     let slot = some_slot(rng, spec);
     let chain = spec.chains.iter().find(|chain| chain.0 == slot).map_or(100, |chain| chain.1);
     let offset = match rng.below(10) {
@@ -521,13 +553,13 @@ fn get_certificate(rng: &mut Rng, spec: &Spec) -> Vec<u8> {
         6 => rng.range(1, 100) as u16,
         _ => 65_535,
     };
-    let mut request = vec![0x12, 0x82, slot | rng.byte() & 0xF0, rng.byte()];
+    let mut request = vec![version, 0x82, slot | rng.byte() & 0xF0, rng.byte()];
     request.extend(offset.to_le_bytes());
     request.extend(length.to_le_bytes());
     request
 }
 
-fn challenge(rng: &mut Rng, spec: &Spec, selected: bool) -> Vec<u8> {
+fn challenge(rng: &mut Rng, spec: &Spec, version: u8, selected: bool) -> Vec<u8> {
     let mut request = rng.bytes(36);
     let slot = some_slot(rng, spec);
     let slot = if rng.one_in(12) { slot | rng.pick(&[8, 16, 128]) } else { slot };
@@ -539,11 +571,11 @@ fn challenge(rng: &mut Rng, spec: &Spec, selected: bool) -> Vec<u8> {
         _ => 0,
     };
     let summary = if selected || rng.one_in(4) { summary } else { 0 };
-    request[..4].copy_from_slice(&[0x12, 0x83, slot, summary]);
+    request[..4].copy_from_slice(&[version, 0x83, slot, summary]);
     request
 }
 
-fn get_measurements(rng: &mut Rng, spec: &Spec) -> Vec<u8> {
+fn get_measurements(rng: &mut Rng, spec: &Spec, version: u8) -> Vec<u8> {
     let which = match rng.below(10) {
         0 | 1 => 0,
         2 | 3 => 0xFF,
@@ -553,7 +585,7 @@ fn get_measurements(rng: &mut Rng, spec: &Spec) -> Vec<u8> {
         _ => spec.indices[rng.below(spec.indices.len())],
     };
     let signed = rng.one_in(2);
-    let mut request = vec![0x12, 0xE0, rng.byte() & 0xFE | u8::from(signed), which];
+    let mut request = vec![version, 0xE0, rng.byte() & 0xFE | u8::from(signed), which];
     if signed || rng.one_in(4) {
         request.extend(rng.bytes(32));
         request.push(some_slot(rng, spec) | rng.byte() & 0xF0);
@@ -565,31 +597,34 @@ fn get_measurements(rng: &mut Rng, spec: &Spec) -> Vec<u8> {
 }
 
 /// What comes next in this phase.
-fn next_step(rng: &mut Rng, spec: &Spec, state: &[u32; 8]) -> Vec<u8> {
-    match state[0] {
+fn next_step(rng: &mut Rng, spec: &Spec, state: &State) -> Vec<u8> {
+    let version = some_version(rng, state);
+    let selected = state[SELECTION] == 1;
+    match state[PHASE] {
         0 => get_version(rng),
-        1 => get_capabilities(rng, spec),
-        2 => negotiate_algorithms(rng, spec),
+        1 => get_capabilities(rng, spec, version),
+        2 => negotiate_algorithms(rng, spec, version),
         _ => match rng.below(12) {
-            0 | 1 => get_digests(rng),
-            2..=5 => get_certificate(rng, spec),
-            6 | 7 => challenge(rng, spec, state[2] == 1),
-            8 if state[2] != 1 => challenge(rng, spec, false),
-            _ => get_measurements(rng, spec),
+            0 | 1 => get_digests(rng, version),
+            2..=5 => get_certificate(rng, spec, version),
+            6 | 7 => challenge(rng, spec, version, selected),
+            8 if !selected => challenge(rng, spec, version, false),
+            _ => get_measurements(rng, spec, version),
         },
     }
 }
 
 /// Any served request.
-fn any_step(rng: &mut Rng, spec: &Spec) -> Vec<u8> {
+fn any_step(rng: &mut Rng, spec: &Spec, state: &State) -> Vec<u8> {
+    let version = some_version(rng, state);
     match rng.below(7) {
         0 => get_version(rng),
-        1 => get_capabilities(rng, spec),
-        2 => negotiate_algorithms(rng, spec),
-        3 => get_digests(rng),
-        4 => get_certificate(rng, spec),
-        5 => challenge(rng, spec, true),
-        _ => get_measurements(rng, spec),
+        1 => get_capabilities(rng, spec, version),
+        2 => negotiate_algorithms(rng, spec, version),
+        3 => get_digests(rng, version),
+        4 => get_certificate(rng, spec, version),
+        5 => challenge(rng, spec, version, true),
+        _ => get_measurements(rng, spec, version),
     }
 }
 
@@ -619,18 +654,18 @@ fn mutate(rng: &mut Rng, request: &mut Vec<u8>) {
     }
 }
 
-fn some_request(rng: &mut Rng, spec: &Spec, state: &[u32; 8]) -> Vec<u8> {
+fn some_request(rng: &mut Rng, spec: &Spec, state: &State) -> Vec<u8> {
     let mut request = match rng.below(100) {
         0..=69 => next_step(rng, spec, state),
         70..=73 => get_version(rng),
-        74..=82 => any_step(rng, spec),
+        74..=82 => any_step(rng, spec, state),
         83..=90 => {
             let mut request = next_step(rng, spec, state);
             mutate(rng, &mut request);
             request
         }
         91..=93 => {
-            let mut request = any_step(rng, spec);
+            let mut request = any_step(rng, spec, state);
             mutate(rng, &mut request);
             request
         }
@@ -646,12 +681,14 @@ fn some_request(rng: &mut Rng, spec: &Spec, state: &[u32; 8]) -> Vec<u8> {
             rng.bytes(length)
         }
         97 => {
-            let mut request = any_step(rng, spec);
+            let mut request = any_step(rng, spec, state);
             request.truncate(rng.below(4));
             request
         }
         _ => {
-            let mut request = any_step(rng, spec);
+            let version = some_version(rng, state);
+            let measure = rng.one_in(2);
+            let mut request = if measure { get_measurements(rng, spec, version) } else { any_step(rng, spec, state) };
             request.resize(rng.pick(&[4_607, 4_608, 4_609, 5_000]), rng.byte());
             request
         }
@@ -665,7 +702,8 @@ fn some_request(rng: &mut Rng, spec: &Spec, state: &[u32; 8]) -> Vec<u8> {
 
 // --------------------------------------------------------------------------------------------- the states
 
-const NEAR: [u32; 36] = [
+/// Numbers at the bounds of one word or another, or beside them.
+const NEAR: [u32; 47] = [
     0,
     1,
     2,
@@ -673,22 +711,33 @@ const NEAR: [u32; 36] = [
     4,
     5,
     8,
-    11,
     12,
     13,
+    14,
+    15,
+    0x10,
+    0x11,
+    0x12,
+    0x13,
+    37,
+    38,
+    39,
     41,
     42,
     43,
-    51,
     52,
     53,
+    54,
+    55,
     216,
+    0x111,
     511,
     512,
     513,
     4_607,
     4_608,
     4_609,
+    0x1200,
     7_679,
     7_680,
     7_681,
@@ -705,7 +754,7 @@ const NEAR: [u32; 36] = [
 ];
 
 /// A state in phase 3, within its bounds, often with B and M nearly full.
-fn negotiated_state(rng: &mut Rng, spec: &Spec) -> [u32; 8] {
+fn negotiated_state(rng: &mut Rng, spec: &Spec) -> State {
     let selected = u32::from(!spec.indices.is_empty() && !rng.one_in(4));
     let sizes = spec.unsigned_sizes();
     let mut used = |room: usize, layouts: &[usize]| match rng.below(4) {
@@ -725,27 +774,51 @@ fn negotiated_state(rng: &mut Rng, spec: &Spec) -> [u32; 8] {
         (_, 1) => (4 + spec.s()) as u32,
         _ => rng.range(4 + spec.s(), 4_608) as u32,
     };
+    let edition = rng.pick(&[0x11, 0x12]);
     let peer = match rng.below(4) {
+        _ if edition == 0x11 => 4_608,
         0 => 42,
         1 => rng.pick(&[u32::MAX, 0x8000_0000, 65_536]),
         _ => 4_608,
     };
     let a = rng.range(0, 512);
-    [3, peer, selected, a as u32, b as u32, m as u32, awaited, length]
+    [3, peer, selected, a as u32, b as u32, m as u32, awaited, length, edition]
+}
+
+/// A state within its bounds, in any phase.
+fn good_state(rng: &mut Rng, spec: &Spec) -> State {
+    match rng.below(6) {
+        0 => [0, rng.word(), 0, 0, 0, 0, 0, rng.word(), 0],
+        1 => [1, rng.word(), 0, 14, 0, 0, 0, 0, 0],
+        2 => [2, 4_608, 0, 38, 0, 0, 0, 0, 0x11],
+        3 => [2, rng.pick(&[42, 43, 4_608, u32::MAX]), 0, 54, 0, 0, 0, 0, 0x12],
+        _ => negotiated_state(rng, spec),
+    }
 }
 
 /// A state that a careless or a hostile host could hand in.
-fn hostile_state(rng: &mut Rng, spec: &Spec) -> [u32; 8] {
+fn hostile_state(rng: &mut Rng, spec: &Spec) -> State {
     let mut state = match rng.below(8) {
-        0 => [(); 8].map(|()| rng.word()),
-        1 => [(); 8].map(|()| rng.pick(&NEAR)),
-        2 => [0, rng.word(), 0, 0, 0, 0, 0, rng.word()],
-        3 => [1, rng.word(), 0, 12, 0, 0, 0, 0],
-        4 => [2, rng.pick(&[42, 43, 4_608, u32::MAX]), 0, 52, 0, 0, 0, 0],
-        _ => negotiated_state(rng, spec),
+        0 => FRESH.map(|_| rng.word()),
+        1 => FRESH.map(|_| rng.pick(&NEAR)),
+        2 | 3 => {
+            // A ninth word of another edition, of none, or of no meaning.
+            let mut state = good_state(rng, spec);
+            state[EDITION] = rng.pick(&[0, 0x11, 0x12, 0, 0x11, 0x12, 1, 2, 0x10, 0x13, 0x111, 0x1200, 0x8000_0012]);
+            state
+        }
+        4 => {
+            // 1.1 with a peer's size that is not its own.
+            let early = [2, 0, 0, 38, 0, 0, 0, 0, 0x11];
+            let mut state = if rng.one_in(2) { early } else { negotiated_state(rng, spec) };
+            state[EDITION] = 0x11;
+            state[PEER] = rng.pick(&[0, 41, 42, 4_607, 4_609, 65_536 + 4_608, u32::MAX]);
+            state
+        }
+        _ => good_state(rng, spec),
     };
     for _ in 0..rng.below(3) {
-        let at = rng.below(8);
+        let at = rng.below(state.len());
         state[at] = match rng.below(4) {
             0 => rng.word(),
             1 => state[at].wrapping_add(rng.pick(&[1, u32::MAX, 0x1_0000, 0x100, 0x8000_0000])),
@@ -805,37 +878,99 @@ impl Setting {
 /// What has been met, so that a generator gone astray shows.
 struct Met {
     numbers: [u64; 17],
+    /// Of the states out of bounds: those that another edition, or none, would bring back.
+    edition_out: u64,
+    /// Choices of another edition than the connection had before it restarted.
+    chosen_anew: u64,
+    /// Calls without a number, by the edition that they leave.
+    under: [Under; EDITIONS.len()],
+    images: [u64; 17],
+}
+
+/// What has been met under an edition.
+#[derive(Clone, Copy)]
+struct Under {
+    /// By the ERROR's code.
     errors: [u64; 256],
+    /// By the request's code.
     accepted: [u64; 256],
+    /// Refusals for the other edition's version byte.
+    crossed: u64,
     /// By the ERROR's code: refusals that found bytes in M and emptied it.
     emptied: [u64; 256],
-    /// Likewise: refusals of GET_MEASUREMENTS that found bytes in M and left them.
+    /// Likewise: refusals of GET_MEASUREMENTS that found bytes in M and left them, but for step 2,
     left: [u64; 256],
+    /// whose refusals are these.
+    left_too_long: u64,
     signed: u64,
+    /// The chip failed, or succeeded.
     finished: [u64; 2],
-    shown: u64,
-    images: [u64; 17],
+    /// What is to be signed: of CHALLENGE, or of GET_MEASUREMENTS.
+    shown: [u64; 2],
+}
+
+impl Under {
+    /// Counts an ERROR to a request. The state that it leaves.
+    fn count_error(&mut self, request: &[u8], code: u8, before: &[u32]) -> Vec<u32> {
+        let mut left = before.to_vec();
+        let measured = u64::from(request.get(1) == Some(&0xE0) && left[M] != 0);
+        let at = usize::from(code);
+        self.errors[at] += 1;
+        if empties_m(request, code) {
+            self.emptied[at] += measured;
+            left[M] = 0;
+        } else if request.len() > 4_608 {
+            self.left_too_long += measured;
+        } else {
+            self.left[at] += measured;
+        }
+        left
+    }
 }
 
 impl Met {
     fn nothing() -> Met {
-        Met {
-            numbers: [0; 17],
+        let under = Under {
             errors: [0; 256],
             accepted: [0; 256],
+            crossed: 0,
             emptied: [0; 256],
             left: [0; 256],
+            left_too_long: 0,
             signed: 0,
             finished: [0; 2],
-            shown: 0,
-            images: [0; 17],
-        }
+            shown: [0; 2],
+        };
+        Met { numbers: [0; 17], edition_out: 0, chosen_anew: 0, under: [under; EDITIONS.len()], images: [0; 17] }
     }
 }
 
-/// Whether an ERROR tells that M was emptied: a GET_MEASUREMENTS with a header was refused at step 7, 8 or 9.
+/// Whether an ERROR tells that M was emptied: a GET_MEASUREMENTS that is no shorter than a header and no longer than a
+/// request may be was refused at step 7, 8 or 9.
 fn empties_m(request: &[u8], code: u8) -> bool {
-    request.len() >= 4 && request[1] == 0xE0 && matches!(code, 0x01 | 0x0D | 0x05)
+    (4..=4_608).contains(&request.len()) && request[1] == 0xE0 && matches!(code, 0x01 | 0x0D | 0x05)
+}
+
+/// The edition of a state within its bounds.
+fn edition_of(state: &[u32]) -> usize {
+    match (state[PHASE], state[EDITION]) {
+        (0 | 1, 0) => UNCHOSEN,
+        (2 | 3, 0x11) => V1_1,
+        (2 | 3, 0x12) => V1_2,
+        _ => panic!("out of bounds: {state:?}"),
+    }
+}
+
+/// Whether a state that is out of bounds would be within them with another ninth word. (No image is looked at.)
+fn only_its_edition(state: &[u32]) -> bool {
+    let out = |state: &[u32]| plain::to_sign(state, &mut [0; 100], &mut [0; 4]) == 14 << 16;
+    let mut other = state.to_vec();
+    out(state)
+        && state.len() == plain::STATE_WORDS
+        && [0, 0x11, 0x12].into_iter().any(|edition| {
+            other[EDITION] = edition;
+            !out(&other)
+        })
 }
 
 struct Host {
@@ -843,7 +978,9 @@ struct Host {
     spec: Spec,
     image: Vec<u8>,
     transcript: Both<u8>,
-    state: [u32; 8],
+    state: State,
+    /// The edition chosen last.
+    chosen: Option<usize>,
     /// The answer that awaits a signature.
     kept: Vec<u8>,
     /// Whether the last call found the state out of bounds.
@@ -861,16 +998,16 @@ impl Host {
         let state = match rng.below(10) {
             0 | 1 => negotiated_state(&mut rng, &spec),
             2 => hostile_state(&mut rng, &spec),
-            _ => [0; 8],
+            _ => FRESH,
         };
-        let mut host = Host { rng, spec, image, transcript, state, kept: Vec::new(), stuck: false };
+        let mut host = Host { rng, spec, image, transcript, state, chosen: None, kept: Vec::new(), stuck: false };
         host.keep_any_answer();
         host
     }
 
     /// For a state that was made up: any bytes as its awaited answer.
     fn keep_any_answer(&mut self) {
-        let length = if self.state[6] == 0 { 0 } else { (self.state[7] as usize).min(5_000) };
+        let length = if self.state[AWAITED] == 0 { 0 } else { (self.state[LENGTH] as usize).min(5_000) };
         self.kept = self.rng.bytes(length);
     }
 
@@ -888,9 +1025,9 @@ impl Host {
                 self.spec = valid_spec(&mut self.rng);
                 self.image = encode(&self.spec.records);
             }
-            4 if self.rng.one_in(3) => self.state = [0; 8],
+            4 if self.rng.one_in(3) => self.state = FRESH,
             _ if self.stuck && self.rng.one_in(2) => {
-                self.state = if self.rng.one_in(2) { [0; 8] } else { negotiated_state(&mut self.rng, &self.spec) };
+                self.state = if self.rng.one_in(2) { FRESH } else { negotiated_state(&mut self.rng, &self.spec) };
                 self.keep_any_answer();
             }
             _ => {}
@@ -909,7 +1046,7 @@ impl Host {
 
         let mut state = self.state.to_vec();
         if rng.one_in(80) {
-            let length = rng.pick(&[0, 1, 7, 9, 16]);
+            let length = rng.pick(&[0, 1, 8, 10, 16]);
             state.resize(length, rng.word());
         }
 
@@ -929,7 +1066,7 @@ impl Host {
         };
         let mut answer = rng.bytes(answer_len);
 
-        let finishing = if self.state[6] == 0 { rng.one_in(25) } else { !rng.one_in(3) };
+        let finishing = if self.state[AWAITED] == 0 { rng.one_in(25) } else { !rng.one_in(3) };
         let call = if finishing {
             if !rng.one_in(6) {
                 let shared = self.kept.len().min(answer.len());
@@ -1030,48 +1167,16 @@ impl Host {
             if length != 0 || answer.plain != setting.answer || state.plain != setting.state {
                 return Err("a number, and yet something was changed (on both sides)".to_owned());
             }
+            met.edition_out += u64::from(number == 14 && only_its_edition(&setting.state));
         } else {
             self.state.copy_from_slice(&state.plain);
-            let changed = answer.plain[length..] != setting.answer[length..];
-            if changed && matches!(setting.call, Call::Respond { .. }) {
-                return Err("bytes past the answer were changed (on both sides)".to_owned());
-            }
-            match &setting.call {
-                Call::Respond { request, .. } if answer.plain[1] == 0x7F => {
-                    let code = answer.plain[2];
-                    met.errors[usize::from(code)] += 1;
-                    let mut left = setting.state.clone();
-                    let measured = u64::from(request.get(1) == Some(&0xE0) && left[5] != 0);
-                    if empties_m(request, code) {
-                        met.emptied[usize::from(code)] += measured;
-                        left[5] = 0;
-                    } else {
-                        met.left[usize::from(code)] += measured;
-                    }
-                    if state.plain != left {
-                        return Err("an ERROR, and yet the state is not what it leaves (on both sides)".to_owned());
-                    }
-                }
-                Call::Respond { request, .. } => {
-                    met.accepted[usize::from(request[1])] += 1;
-                    if self.state[6] == 0 {
-                        self.kept.clear();
-                    } else {
-                        met.signed += 1;
-                        self.kept = answer.plain[..length].to_vec();
-                    }
-                }
-                Call::Finish { chip_ok, .. } => {
-                    met.finished[usize::from(*chip_ok != 0)] += 1;
-                    self.kept.clear();
-                }
-            }
+            self.count(setting, &answer.plain, length, met)?;
         }
         let state = self.state;
         compare_to_sign(&mut self.rng, &state, met)?;
         if self.rng.one_in(8) {
             let hostile = hostile_state(&mut self.rng, &self.spec);
-            let length = if self.rng.one_in(10) { self.rng.below(8) } else { 8 };
+            let length = if self.rng.one_in(10) { self.rng.below(hostile.len()) } else { hostile.len() };
             compare_to_sign(&mut self.rng, &hostile[..length], met)?;
         }
         let reading = (plain::read_image(&setting.image), ffi::read_image(image.get()));
@@ -1080,6 +1185,50 @@ impl Host {
         }
         met.images[(reading.0 >> 16) as usize] += 1;
         unchanged("image", &image, &setting.image)
+    }
+
+    /// Counts what a call without a number came to, holds it to what is said of every such call, and keeps an answer that
+    /// awaits its signature.
+    fn count(&mut self, setting: &Setting, answer: &[u8], length: usize, met: &mut Met) -> Result<(), String> {
+        let changed = answer[length..] != setting.answer[length..];
+        if changed && matches!(setting.call, Call::Respond { .. }) {
+            return Err("bytes past the answer were changed (on both sides)".to_owned());
+        }
+        let edition = edition_of(&self.state);
+        let under = &mut met.under[edition];
+        // After a success the buffer holds what the host lent, any bytes as often as not.
+        let succeeded = matches!(setting.call, Call::Finish { chip_ok, .. } if chip_ok != 0);
+        let version = [0x10, 0x11, 0x12][edition];
+        if !succeeded && answer[0] != version {
+            return Err(format!("an answer carries {:#04x}, not {version:#04x} (on both sides)", answer[0]));
+        }
+        match &setting.call {
+            Call::Respond { request, .. } if answer[1] == 0x7F => {
+                let others = [None, Some(&0x12), Some(&0x11)][edition];
+                under.crossed += u64::from(answer[2] == 0x41 && request[1] != 0x84 && request.first() == others);
+                if self.state[..] != under.count_error(request, answer[2], &setting.state) {
+                    return Err("an ERROR, and yet the state is not what it leaves (on both sides)".to_owned());
+                }
+            }
+            Call::Respond { request, .. } => {
+                under.accepted[usize::from(request[1])] += 1;
+                if request[1] == 0xE1 {
+                    let before = self.chosen.replace(edition);
+                    met.chosen_anew += u64::from(before.is_some_and(|before| before != edition));
+                }
+                if self.state[AWAITED] == 0 {
+                    self.kept.clear();
+                } else {
+                    under.signed += 1;
+                    self.kept = answer[..length].to_vec();
+                }
+            }
+            Call::Finish { .. } => {
+                under.finished[usize::from(succeeded)] += 1;
+                self.kept.clear();
+            }
+        }
+        Ok(())
     }
 }
 
@@ -1111,7 +1260,19 @@ fn compare_to_sign(rng: &mut Rng, words: &[u32], met: &mut Met) -> Result<(), St
     prefix.compare("prefix").map_err(report)?;
     parts.compare("parts").map_err(report)?;
     unchanged("state", &state, words).map_err(report)?;
-    met.shown += u64::from(plain == 100);
+    if plain >> 16 == 0 {
+        let (edition, awaited) = (edition_of(words), words[AWAITED]);
+        let wanted = match (edition, awaited) {
+            (_, 1) => [0, words[A], 512, words[B]],
+            (V1_1, _) => [0, 0, 8_704, words[M]],
+            _ => [0, words[A], 8_704, words[M]],
+        };
+        let as_it_was = prefix.plain == contents;
+        if parts.plain[..4] != wanted || (plain, as_it_was) != if edition == V1_1 { (0, true) } else { (100, false) } {
+            return Err(report(format!("length {plain}, {:?}: not its edition's (on both sides)", parts.plain)));
+        }
+        met.under[edition].shown[awaited as usize - 1] += 1;
+    }
     Ok(())
 }
 
@@ -1189,21 +1350,39 @@ fn random_runs() {
         for number in [0, 1, 2, 3, 4, 5, 6, 7, 8, 11, 12, 13, 14, 15, 16] {
             assert!(met.numbers[number] > 0, "number {number} was never met");
         }
-        for code in [0x01, 0x03, 0x04, 0x05, 0x07, 0x0D, 0x0E, 0x41] {
-            assert!(met.errors[code] > 0, "error {code:#04x} was never met");
+        assert!(met.edition_out > 0, "no state was out of bounds by its edition alone");
+        assert!(met.chosen_anew > 0, "no restart led to another edition");
+        for ((edition, under), (errors, accepted, emptied, left)) in EDITIONS.iter().zip(&met.under).zip(WANTED) {
+            for (counts, codes, what) in [
+                (&under.errors, errors, "an ERROR"),
+                (&under.accepted, accepted, "accepted"),
+                (&under.emptied, emptied, "emptying M"),
+                (&under.left, left, "leaving M"),
+            ] {
+                for &code in codes {
+                    assert!(counts[code] > 0, "edition {edition}: {code:#04x} was never met, {what}");
+                }
+            }
         }
-        for code in [0x81, 0x82, 0x83, 0x84, 0xE0, 0xE1, 0xE3] {
-            assert!(met.accepted[code] > 0, "request {code:#04x} was never accepted");
+        for under in &met.under[V1_1..] {
+            assert!(under.left_too_long > 0 && under.crossed > 0 && under.signed > 0);
+            assert!(under.finished.iter().chain(&under.shown).all(|&count| count > 0));
         }
-        for code in [0x01, 0x05, 0x0D] {
-            assert!(met.emptied[code] > 0, "error {code:#04x} never emptied M");
-        }
-        for code in [0x01, 0x03, 0x04, 0x07, 0x0E, 0x41] {
-            assert!(met.left[code] > 0, "error {code:#04x} never left M");
-        }
-        assert!(met.finished.iter().all(|&count| count > 0) && met.signed > 0 && met.shown > 0);
+        let none = &met.under[V1_1].errors;
+        assert_eq!((none[0x0D], none[0x0E]), (0, 0), "errors that 1.1 does not have");
     }
 }
+
+/// The codes that a long run must meet under each edition: ERRORs, accepted requests, ERRORs to GET_MEASUREMENTS that
+/// empty M, and those that leave it.
+type Wanted = (&'static [usize], &'static [usize], &'static [usize], &'static [usize]);
+const CHOSEN: &[usize] = &[0x81, 0x82, 0x83, 0xE0, 0xE1, 0xE3];
+const LEFT: &[usize] = &[0x01, 0x03, 0x04, 0x07, 0x41];
+const WANTED: [Wanted; EDITIONS.len()] = [
+    (&[0x01, 0x04, 0x07, 0x0E, 0x41], &[0x84], &[], &[]),
+    (&[0x01, 0x03, 0x04, 0x05, 0x07, 0x41], CHOSEN, &[0x01, 0x05], LEFT),
+    (&[0x01, 0x03, 0x04, 0x05, 0x07, 0x0D, 0x0E, 0x41], CHOSEN, &[0x01, 0x05, 0x0D], LEFT),
+];
 
 /// The readers alone, mostly on damaged images.
 #[test]
@@ -1255,13 +1434,27 @@ fn print_counts(name: &str, counts: &[u64], in_hex: bool) {
 
 fn print_met(met: &Met) {
     print_counts("numbers ", &met.numbers, false);
-    print_counts("errors  ", &met.errors, true);
-    print_counts("accepted", &met.accepted, true);
-    print_counts("emptied ", &met.emptied, true);
-    print_counts("left    ", &met.left, true);
-    print_counts("images  ", &met.images, false);
     println!(
-        "awaiting a signature: {}; finished: {} signed, {} chip failed; shown to be signed: {}",
-        met.signed, met.finished[1], met.finished[0], met.shown
+        "number 14 by the edition alone: {}; another edition after a restart: {}",
+        met.edition_out, met.chosen_anew
     );
+    for (edition, under) in EDITIONS.iter().zip(&met.under) {
+        println!("edition {edition}");
+        print_counts("  errors  ", &under.errors, true);
+        print_counts("  accepted", &under.accepted, true);
+        print_counts("  emptied ", &under.emptied, true);
+        print_counts("  left    ", &under.left, true);
+        println!(
+            "  too long, M left: {}; the other edition's byte: {}; awaiting a signature: {}; finished: {} signed, {} \
+             chip failed; shown to be signed: {} challenges, {} measurements",
+            under.left_too_long,
+            under.crossed,
+            under.signed,
+            under.finished[1],
+            under.finished[0],
+            under.shown[0],
+            under.shown[1]
+        );
+    }
+    print_counts("images  ", &met.images, false);
 }

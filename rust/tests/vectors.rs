@@ -74,111 +74,233 @@ fn images() {
     assert!(lines > 0, "no lines");
 }
 
+/// What runs.txt is a copy of.
+const RUNS: &str = "request-4-runs.txt";
+
 type Respond = fn(&[u8], &mut [u32], &mut [u8], &mut [u8], &[u8], &[u8]) -> u32;
 type Finish = fn(&[u8], &mut [u32], &mut [u8], &mut [u8], bool, &[u8]) -> u32;
+type ToSign = fn(&[u32], &mut [u8], &mut [u32]) -> u32;
 
-/// Runs request-3-runs.txt through one responder, and gives the count of compared lines and the faults.
-fn run(who: &str, respond: Respond, finish: Finish) -> (usize, Vec<String>) {
-    let mut images: HashMap<String, Vec<u8>> = HashMap::new();
-    let mut transcript: Vec<u8> = Vec::new();
-    let mut state = [0u32; 8];
-    // The answer that awaits a signature, as the host keeps it.
-    let mut kept: Vec<u8> = Vec::new();
-    // What the last call left: its result and, past the answer, whether its buffer was as before.
-    let mut last: Option<(u32, Vec<u8>, Vec<u8>)> = None;
-    let mut compared = 0;
-    let mut faults = Vec::new();
+/// A responder's calls on a connection.
+#[derive(Clone, Copy)]
+struct Responder {
+    who: &'static str,
+    respond: Respond,
+    finish: Finish,
+    to_sign: ToSign,
+}
 
+/// The words of a state that the host looks at.
+const AWAITED: usize = 6;
+const AWAITED_LENGTH: usize = 7;
+
+/// What a call left: its result, the answer buffer, and that buffer before the call.
+struct Left {
+    result: u32,
+    answer: Vec<u8>,
+    before: Vec<u8>,
+}
+
+/// The host of a run, which keeps what one responder is lent.
+struct Host {
+    responder: Responder,
+    images: HashMap<String, Vec<u8>>,
+    transcript: Vec<u8>,
+    state: [u32; plain::STATE_WORDS],
+    /// The answer that awaits a signature.
+    kept: Vec<u8>,
+    /// What the last call left, until its `=`.
+    left: Option<Left>,
+    /// Whether an `H` must follow.
+    to_show: bool,
+    /// The calls compared, and the faults.
+    compared: usize,
+    shown: usize,
+    faults: Vec<String>,
+}
+
+impl Host {
+    fn new(responder: Responder) -> Host {
+        Host {
+            responder,
+            images: HashMap::new(),
+            transcript: Vec::new(),
+            state: [0; plain::STATE_WORDS],
+            kept: Vec::new(),
+            left: None,
+            to_show: false,
+            compared: 0,
+            shown: 0,
+            faults: Vec::new(),
+        }
+    }
+
+    fn fault(&mut self, at: usize, what: &str) {
+        self.faults.push(format!("{RUNS}:{at}: {}: {what}", self.responder.who));
+    }
+
+    /// An `S`: the state as handed in. Its awaited answer has bytes of its own.
+    fn hand_in(&mut self, words: &[&str]) {
+        assert_eq!(words.len(), self.state.len(), "words of a state");
+        for (word, text) in self.state.iter_mut().zip(words) {
+            *word = number(text);
+        }
+        // A length that is out of bounds is refused: nobody looks at these bytes.
+        let length = if self.state[AWAITED] == 0 { 0 } else { self.state[AWAITED_LENGTH].min(5_000) };
+        self.kept = (0..length).map(|i| (5 * i) as u8).collect();
+    }
+
+    /// An `R`.
+    fn respond(&mut self, at: usize, image: &str, lengths: [&str; 2], nonce: &str, request: &str) {
+        let [answer_len, transcript_len] = lengths.map(number);
+        let before = other_bytes(at, answer_len);
+        let mut answer = before.clone();
+        let lent = &mut self.transcript[..transcript_len];
+        let (request, nonce) = (bytes(request), bytes(nonce));
+        let result =
+            (self.responder.respond)(&self.images[image], &mut self.state, lent, &mut answer, &request, &nonce);
+        self.left = Some(Left { result, answer, before });
+    }
+
+    /// An `F`: the answer buffer begins with the awaited answer.
+    fn finish(&mut self, at: usize, image: &str, lengths: [&str; 2], chip: &str, signature: &str) {
+        let [answer_len, transcript_len] = lengths.map(number);
+        let mut before = other_bytes(at, answer_len);
+        let shared = self.kept.len().min(before.len());
+        before[..shared].copy_from_slice(&self.kept[..shared]);
+        let mut answer = before.clone();
+        let lent = &mut self.transcript[..transcript_len];
+        let chip_ok = match chip {
+            "0" => false,
+            "1" => true,
+            other => panic!("line {at}: chip result {other}"),
+        };
+        let signature = bytes(signature);
+        let result =
+            (self.responder.finish)(&self.images[image], &mut self.state, lent, &mut answer, chip_ok, &signature);
+        self.left = Some(Left { result, answer, before });
+    }
+
+    /// An `=`: what the last call gave.
+    fn compare(&mut self, at: usize, expected: &str) {
+        let Left { result, answer, before } = self.left.take().expect("a call before its result");
+        self.compared += 1;
+        let (number, length) = (result >> 16, (result & 0xFFFF) as usize);
+        let found = format!(
+            "{number} {} {} {:08x}",
+            answer.get(..length).map_or("out of the buffer".to_owned(), hex),
+            self.state.map(|word| word.to_string()).join(" "),
+            crc32(&self.transcript)
+        );
+        if found != expected {
+            self.fault(at, &format!("\n  found    {found}\n  expected {expected}"));
+        }
+        if answer.get(length..) != before.get(length..) {
+            self.fault(at, "bytes past the answer were changed");
+        }
+        self.to_show = number == 0 && self.state[AWAITED] != 0;
+        if self.state[AWAITED] == 0 {
+            self.kept.clear();
+        } else if number == 0 && self.kept.is_empty() {
+            self.kept = answer[..length].to_vec();
+        }
+    }
+
+    /// An `H`: what is to be signed.
+    fn show(&mut self, at: usize, expected: &str) {
+        if !std::mem::take(&mut self.to_show) {
+            self.fault(at, "nothing is awaited");
+            return;
+        }
+        self.shown += 1;
+        let before = other_bytes(at, plain::PREFIX);
+        let (mut prefix, mut parts) = (before.clone(), [0; 4]);
+        let result = (self.responder.to_sign)(&self.state, &mut prefix, &mut parts);
+        let [first, first_length, second, second_length] = parts.map(|word| word as usize);
+        let hashed =
+            [&self.transcript[first..first + first_length], &self.transcript[second..second + second_length]].concat();
+        let signed = prefix.get(..result as usize).map(|prefix| [prefix, &hashed].concat());
+        let found = match &signed {
+            Some(signed) => format!("{result} {} {:08x}", hashed.len(), crc32(signed)),
+            None => format!("a result of {result:#x}"),
+        };
+        if found != expected {
+            self.fault(at, &format!("to be signed:\n  found    {found}\n  expected {expected}"));
+        }
+        if result == 0 && prefix != before {
+            self.fault(at, "no prefix, and yet its buffer was changed");
+        }
+    }
+}
+
+/// What a buffer holds that is lent to another call.
+fn other_bytes(at: usize, length: usize) -> Vec<u8> {
+    (0..length).map(|i| (7 * i + at) as u8).collect()
+}
+
+fn run(responder: Responder) -> Host {
+    let mut host = Host::new(responder);
+    let mut last = 0;
     for (at, line) in (1..).zip(read_lines("runs.txt")) {
+        last = at;
+        if host.to_show && !line.starts_with("H ") {
+            host.fault(at, "a signature is awaited, and yet no H follows");
+            host.to_show = false;
+        }
         let words: Vec<&str> = line.split(' ').collect();
         match words[..] {
             ["I", name, image] => {
                 if name == "g0" {
-                    images.clear();
+                    host.images.clear();
                 }
-                images.insert(name.to_owned(), bytes(image));
+                host.images.insert(name.to_owned(), bytes(image));
             }
             ["T", size, fill] => {
                 let fill: usize = number(fill);
-                transcript = (0..number(size)).map(|i: usize| (fill + 13 * i) as u8).collect();
+                host.transcript = (0..number(size)).map(|i: usize| (fill + 13 * i) as u8).collect();
             }
-            ["S", ref handed @ ..] => {
-                for (word, text) in state.iter_mut().zip(handed) {
-                    *word = number(text);
-                }
-                assert_eq!(handed.len(), 8, "line {at}");
-                kept = if state[6] != 0 { (0..state[7]).map(|i| (5 * i) as u8).collect() } else { Vec::new() };
-            }
+            ["S", ref words @ ..] => host.hand_in(words),
             ["R", image, answer_len, transcript_len, nonce, request] => {
-                let before: Vec<u8> = (0..number(answer_len)).map(|i: usize| (7 * i + at) as u8).collect();
-                let mut answer = before.clone();
-                let lent = &mut transcript[..number(transcript_len)];
-                let result = respond(&images[image], &mut state, lent, &mut answer, &bytes(request), &bytes(nonce));
-                last = Some((result, answer, before));
+                host.respond(at, image, [answer_len, transcript_len], nonce, request);
             }
-            ["F", image, answer_len, transcript_len, chip_ok, signature] => {
-                let mut before: Vec<u8> = (0..number(answer_len)).map(|i: usize| (7 * i + at) as u8).collect();
-                let shared = kept.len().min(before.len());
-                before[..shared].copy_from_slice(&kept[..shared]);
-                let mut answer = before.clone();
-                let lent = &mut transcript[..number(transcript_len)];
-                let chip_ok = match chip_ok {
-                    "0" => false,
-                    "1" => true,
-                    other => panic!("line {at}: chip result {other}"),
-                };
-                let result = finish(&images[image], &mut state, lent, &mut answer, chip_ok, &bytes(signature));
-                last = Some((result, answer, before));
+            ["F", image, answer_len, transcript_len, chip, signature] => {
+                host.finish(at, image, [answer_len, transcript_len], chip, signature);
             }
-            ["=", expected_number, expected_answer, ref rest @ ..] => {
-                let (result, answer, before) = last.take().expect("a call before its result");
-                compared += 1;
-                let length = (result & 0xFFFF) as usize;
-                let found = format!(
-                    "{} {} {} {:08x}",
-                    result >> 16,
-                    answer.get(..length).map_or("out of the buffer".to_owned(), hex),
-                    state.map(|word| word.to_string()).join(" "),
-                    crc32(&transcript)
-                );
-                let expected = format!("{expected_number} {expected_answer} {}", rest.join(" "));
-                if found != expected {
-                    faults.push(format!("request-3-runs.txt:{at}: {who}:\n  found    {found}\n  expected {expected}"));
-                }
-                if answer.get(length..) != before.get(length..) {
-                    faults.push(format!("request-3-runs.txt:{at}: {who}: bytes past the answer were changed"));
-                }
-                if state[6] == 0 {
-                    kept.clear();
-                } else if result >> 16 == 0 && kept.is_empty() {
-                    kept = answer[..length].to_vec();
-                }
-            }
-            _ => panic!("request-3-runs.txt:{at}: not understood: {line}"),
+            ["=", ref expected @ ..] => host.compare(at, &expected.join(" ")),
+            ["H", ref expected @ ..] => host.show(at, &expected.join(" ")),
+            _ => panic!("{RUNS}:{at}: not understood: {line}"),
         }
     }
-    (compared, faults)
+    if host.to_show {
+        host.fault(last, "a signature is awaited, and yet no H follows");
+    }
+    host
 }
 
-fn check(who: &str, respond: Respond, finish: Finish) {
-    let (compared, faults) = run(who, respond, finish);
-    println!("request-3-runs.txt: {who}: {compared} calls compared, {} faults", faults.len());
-    let shown = faults.iter().take(20).cloned().collect::<Vec<_>>().join("\n");
-    assert!(faults.is_empty(), "{} faults, the first:\n{shown}", faults.len());
-    assert!(compared > 0, "no lines");
+fn check(responder: Responder) {
+    let Host { compared, shown, faults, .. } = run(responder);
+    println!(
+        "{RUNS}: {}: {compared} calls and {shown} times what is to be signed compared, {} faults",
+        responder.who,
+        faults.len()
+    );
+    let first = faults.iter().take(20).cloned().collect::<Vec<_>>().join("\n");
+    assert!(faults.is_empty(), "{} faults, the first:\n{first}", faults.len());
+    assert!(compared > 0 && shown > 0, "no lines");
 }
 
 #[test]
 fn runs_plain() {
-    check("plain", plain::respond, plain::finish);
+    check(Responder { who: "plain", respond: plain::respond, finish: plain::finish, to_sign: plain::to_sign });
 }
 
+/// What is to be signed needs no image, so the plain responder shows it here too.
 #[test]
 fn runs_tuned() {
-    check("tuned", tuned::respond, tuned::finish);
+    check(Responder { who: "tuned", respond: tuned::respond, finish: tuned::finish, to_sign: plain::to_sign });
 }
 
 #[test]
 fn runs_library() {
-    check("library", ffi::respond, ffi::finish);
+    check(Responder { who: "library", respond: ffi::respond, finish: ffi::finish, to_sign: ffi::to_sign });
 }

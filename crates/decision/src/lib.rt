@@ -26,7 +26,6 @@ use rules::limits::LONG_STEP;
 use rules::limits::MESSAGE_LIMIT;
 use rules::limits::NONCE_LENGTH;
 use rules::limits::PHASE_STEP;
-use rules::limits::REQUEST_TOO_LARGE;
 use rules::limits::SHORT_ANSWER;
 use rules::limits::SHORT_STEP;
 use rules::limits::SHORT_TRANSCRIPT;
@@ -93,10 +92,10 @@ fn kind_steps(image: &[u8], ix: Index, s: State, r: &[u8], k: Kind) -> Decision
     if !steps::serves_kind(ix, k) {
         return steps::refused(CODE_STEP, UNSUPPORTED_REQUEST, r[1]);
     }
-    if r[0] != steps::version_for(k) {
+    let n = s.negotiated;
+    if !steps::version_fits(n, r[0], k) {
         return steps::refused(VERSION_STEP, VERSION_MISMATCH, 0);
     }
-    let n = s.negotiated;
     if !steps::in_phase(n, k) {
         return steps::refused(PHASE_STEP, UNEXPECTED_REQUEST, 0);
     }
@@ -111,7 +110,8 @@ fn decide_request(image: &[u8], ix: Index, s: State, r: &[u8]) -> Decision
         return steps::refused(SHORT_STEP, INVALID_REQUEST, 0);
     }
     if MESSAGE_LIMIT < r.len() {
-        return steps::refused(LONG_STEP, REQUEST_TOO_LARGE, 0);
+        let n = s.negotiated;
+        return steps::refused(LONG_STEP, steps::long_code(n), 0);
     }
     let code = r[1];
     let w = s.awaited;

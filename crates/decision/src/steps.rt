@@ -25,11 +25,13 @@ use rules::limits::GET_VERSION;
 use rules::limits::INVALID_REQUEST;
 use rules::limits::M_LIMIT;
 use rules::limits::NEGOTIATE_ALGORITHMS;
+use rules::limits::REQUEST_TOO_LARGE;
 use rules::limits::RESPONSE_TOO_LARGE;
 use rules::limits::ROOM_STEP;
 use rules::limits::SIZE_STEP;
 use rules::limits::UNSPECIFIED;
 use rules::limits::VERSION_10;
+use rules::limits::VERSION_11;
 use rules::limits::VERSION_12;
 use rules::limits::VERSION_PHASE;
 ghost use mathlib.Core.Path.{_≡_};
@@ -41,7 +43,8 @@ ghost use Rattle.wire.specs.Pick.{pick};
 ghost use Rattle.rules.specs.Facts.{factsAt};
 ghost use Rattle.rules.specs.Limits.{algorithmsPhase, awaitsNothing};
 ghost use Rattle.rules.specs.Parts.{limitOf, countOf};
-ghost use Rattle.rules.specs.Steps.{kindOf, mustWait, serves, versionFor, inPhase, refusal, invalid, sizeSteps};
+ghost use Rattle.rules.specs.Header.{isEdition};
+ghost use Rattle.rules.specs.Steps.{kindOf, longCode, mustWait, serves, carries, versionFits, inPhase, refusal, invalid, sizeSteps};
 ghost use Rattle.decision.specs.Small.{Small};
 
 // What a request code asks for: every code that is not served, RESPOND_IF_READY included, is unsupported.
@@ -61,6 +64,16 @@ pub(crate) fn kind_of(code: u8) -> Asked
         0xE2 => Asked::Unserved,
         0xE4..=0xFF => Asked::Unserved,
     }
+}
+
+// Step 2's code.
+pub(crate) fn long_code(n: Negotiated) -> u8
+    ensures { λ r. ⌜ r ≡ longCode n ⌝ }
+{
+    if state::version_of(n) == VERSION_11 {
+        return INVALID_REQUEST;
+    }
+    REQUEST_TOO_LARGE
 }
 
 // Step 3: a signature is awaited, and this is no GET_VERSION.
@@ -91,18 +104,37 @@ pub(crate) fn serves_kind(ix: Index, k: Kind) -> bool
     }
 }
 
+fn is_edition(version: u8) -> bool
+    ensures { λ r. ⌜ r ≡ isEdition version ⌝ }
+{
+    if version == VERSION_11 {
+        return true;
+    }
+    version == VERSION_12
+}
+
+// Before a choice either edition, after it the chosen one.
+fn carries_edition(n: Negotiated, version: u8) -> bool
+    ensures { λ r. ⌜ r ≡ carries n version ⌝ }
+{
+    if n.phase < CAPABILITIES_PHASE {
+        return is_edition(version);
+    }
+    version == state::version_of(n)
+}
+
 // Step 5.
-pub(crate) fn version_for(k: Kind) -> u8
-    ensures { λ r. ⌜ r ≡ versionFor k ⌝ }
+pub(crate) fn version_fits(n: Negotiated, version: u8, k: Kind) -> bool
+    ensures { λ r. ⌜ r ≡ versionFits n version k ⌝ }
 {
     match k {
-        Kind::Version => VERSION_10,
-        Kind::Capabilities => VERSION_12,
-        Kind::Algorithms => VERSION_12,
-        Kind::Digests => VERSION_12,
-        Kind::Certificate => VERSION_12,
-        Kind::Challenge => VERSION_12,
-        Kind::Measurements => VERSION_12,
+        Kind::Version => version == VERSION_10,
+        Kind::Capabilities => carries_edition(n, version),
+        Kind::Algorithms => carries_edition(n, version),
+        Kind::Digests => carries_edition(n, version),
+        Kind::Certificate => carries_edition(n, version),
+        Kind::Challenge => carries_edition(n, version),
+        Kind::Measurements => carries_edition(n, version),
     }
 }
 

@@ -4,7 +4,7 @@ use crate::TRANSCRIPT;
 use crate::show::print;
 use crate::show::print_bytes;
 use crate::show::print_number;
-use crate::show::print_sum;
+use crate::signed::print_signed;
 use rules::Reply;
 use rules::State;
 
@@ -21,19 +21,31 @@ pub const GET_CERTIFICATE: u8 = 0x82;
 
 pub const CHALLENGE: u8 = 0x83;
 
-// The peer's GET_CAPABILITIES: both sizes are 4,608.
-const PEER: [u8; 20] =
-    *b"\x12\xE1\x00\x00\x00\x00\x00\x00\x00\x00\x00\x00\x00\x12\x00\x00\x00\x12\x00\x00";
+// The versions that a peer can speak.
+pub const VERSION_11: u8 = 0x11;
 
-// The peer's NEGOTIATE_ALGORITHMS: the DMTF's measurement specification, P-256 and SHA-256.
+pub const VERSION_12: u8 = 0x12;
+
+// What a peer's requests have in them: the version that it speaks, the slot, and CHALLENGE's Param2.
+pub struct Peer {
+    pub version: u8,
+    pub slot: u8,
+    pub summary: u8,
+}
+
+// GET_CAPABILITIES, but for its version: both sizes are 4,608.
+const CAPABILITIES: [u8; 20] =
+    *b"\x00\xE1\x00\x00\x00\x00\x00\x00\x00\x00\x00\x00\x00\x12\x00\x00\x00\x12\x00\x00";
+
+// Under 1.1 it ends before the sizes.
+const CAPABILITIES_11: usize = 12;
+
+// NEGOTIATE_ALGORITHMS, but for its version: the DMTF's measurement specification, P-256 and SHA-256.
 const OFFER: [u8; 32] =
-    *b"\x12\xE3\x00\x00\x20\x00\x01\x00\x10\x00\x00\x00\x01\x00\x00\x00\x00\x00\x00\x00\x00\x00\x00\x00\x00\x00\x00\x00\x00\x00\x00\x00";
+    *b"\x00\xE3\x00\x00\x20\x00\x01\x00\x10\x00\x00\x00\x01\x00\x00\x00\x00\x00\x00\x00\x00\x00\x00\x00\x00\x00\x00\x00\x00\x00\x00\x00";
 
 // The code of the answer to GET_CERTIFICATE.
 const CERTIFICATE: u8 = 0x02;
-
-// The prefix that is signed has so many bytes.
-const PREFIX: usize = 100;
 
 // A portion of a chain has at most so many bytes, and a chain at most so many portions.
 const PORTION: u16 = 1024;
@@ -57,19 +69,6 @@ fn print_reply(reply: Reply, answer: &[u8]) {
         Reply::Answer(n) => print_bytes(wire::part_of(answer, 0, n)),
     }
     print(b"\n");
-}
-
-// What the chip is to sign: the prefix, and the hash over two parts of the transcript.
-fn print_signed(s: State, transcript: &[u8]) {
-    let mut prefix = [0u8; PREFIX];
-    signing::write_prefix(awaited(s), &mut prefix);
-    print(b" [prefix of ");
-    print_sum(&prefix);
-    print(b"; hashed ");
-    print_sum(signing::first_part(s, transcript));
-    print(b" and ");
-    print_sum(signing::second_part(s, transcript));
-    print(b"]");
 }
 
 // Finishes a signed answer; the chip's signature is a fixed pattern.
@@ -117,18 +116,65 @@ pub fn ask(
     o.state
 }
 
+// Sends a GET_CAPABILITIES.
+fn capabilities(
+    image: &[u8],
+    s: State,
+    transcript: &mut [u8; TRANSCRIPT],
+    answer: &mut [u8; ANSWER],
+    version: u8,
+) -> State {
+    let mut request = CAPABILITIES;
+    wire::copy_into(&mut request, 0, &[version]);
+    let length = if version == VERSION_11 {
+        CAPABILITIES_11
+    } else {
+        request.len()
+    };
+    ask(
+        image,
+        s,
+        transcript,
+        answer,
+        b"GET_CAPABILITIES",
+        wire::part_of(&request, 0, length),
+    )
+}
+
+// Sends a NEGOTIATE_ALGORITHMS.
+fn algorithms(
+    image: &[u8],
+    s: State,
+    transcript: &mut [u8; TRANSCRIPT],
+    answer: &mut [u8; ANSWER],
+    version: u8,
+) -> State {
+    let mut request = OFFER;
+    wire::copy_into(&mut request, 0, &[version]);
+    ask(
+        image,
+        s,
+        transcript,
+        answer,
+        b"NEGOTIATE_ALGORITHMS",
+        &request,
+    )
+}
+
 // Sends a CHALLENGE.
 pub fn challenge(
     image: &[u8],
     s: State,
     transcript: &mut [u8; TRANSCRIPT],
     answer: &mut [u8; ANSWER],
-    version: u8,
-    slot: u8,
-    summary: u8,
+    peer: Peer,
 ) -> State {
     let mut request = [0u8; 36];
-    wire::copy_into(&mut request, 0, &[version, CHALLENGE, slot, summary]);
+    wire::copy_into(
+        &mut request,
+        0,
+        &[peer.version, CHALLENGE, peer.slot, peer.summary],
+    );
     wire::copy_into(&mut request, 4, b"the requester's nonce, 32 bytes.");
     ask(image, s, transcript, answer, b"CHALLENGE", &request)
 }
@@ -147,7 +193,7 @@ fn read_chain(
     s: State,
     transcript: &mut [u8; TRANSCRIPT],
     answer: &mut [u8; ANSWER],
-    slot: u8,
+    peer: Peer,
 ) -> State {
     let mut after = s;
     for k in 0..PORTIONS {
@@ -159,9 +205,9 @@ fn read_chain(
             answer,
             b"GET_CERTIFICATE",
             &[
-                0x12,
+                peer.version,
                 GET_CERTIFICATE,
-                slot,
+                peer.slot,
                 0,
                 (offset % 256) as u8,
                 (offset / 256) as u8,
@@ -176,15 +222,14 @@ fn read_chain(
     after
 }
 
-// Sends the request of a code, for a slot and a Param2 of CHALLENGE where it has them.
+// Sends the request of a code.
 fn send(
     image: &[u8],
     s: State,
     transcript: &mut [u8; TRANSCRIPT],
     answer: &mut [u8; ANSWER],
     code: u8,
-    slot: u8,
-    summary: u8,
+    peer: Peer,
 ) -> State {
     match code {
         GET_VERSION => ask(
@@ -195,25 +240,18 @@ fn send(
             b"GET_VERSION",
             b"\x10\x84\x00\x00",
         ),
-        GET_CAPABILITIES => ask(image, s, transcript, answer, b"GET_CAPABILITIES", &PEER),
-        NEGOTIATE_ALGORITHMS => ask(
-            image,
-            s,
-            transcript,
-            answer,
-            b"NEGOTIATE_ALGORITHMS",
-            &OFFER,
-        ),
+        GET_CAPABILITIES => capabilities(image, s, transcript, answer, peer.version),
+        NEGOTIATE_ALGORITHMS => algorithms(image, s, transcript, answer, peer.version),
         GET_DIGESTS => ask(
             image,
             s,
             transcript,
             answer,
             b"GET_DIGESTS",
-            b"\x12\x81\x00\x00",
+            &[peer.version, GET_DIGESTS, 0, 0],
         ),
-        GET_CERTIFICATE => read_chain(image, s, transcript, answer, slot),
-        _ => challenge(image, s, transcript, answer, 0x12, slot, summary),
+        GET_CERTIFICATE => read_chain(image, s, transcript, answer, peer),
+        _ => challenge(image, s, transcript, answer, peer),
     }
 }
 
@@ -224,13 +262,12 @@ pub fn run(
     transcript: &mut [u8; TRANSCRIPT],
     answer: &mut [u8; ANSWER],
     codes: &[u8],
-    slot: u8,
-    summary: u8,
+    peer: Peer,
 ) -> State {
     let mut after = s;
     let mut i = 0;
     while i < codes.len() {
-        after = send(image, after, transcript, answer, codes[i], slot, summary);
+        after = send(image, after, transcript, answer, codes[i], peer);
         i += 1;
     }
     after

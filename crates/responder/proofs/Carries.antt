@@ -6,7 +6,7 @@ use Prim.Native.Nat.{ℕ, _+_, _≤_}
 use native.Mathlib.Omega.{arith}
 use native.Mathlib.Nat.{zero-add}
 use lib.Dec.{eqb}
-use lib.ListN.{length, take, replicate, length-append}
+use lib.ListN.{length, take, replicate}
 use lib.Seq.{take-take, take-at}
 use Rattle.wire.specs.Bytes.{splice}
 use Rattle.wire.specs.Pick.{pick}
@@ -17,7 +17,7 @@ use Rattle.image.specs.Sizes.{signatureMost}
 use Rattle.image.proofs.Sizes.{signature-most}
 use Rattle.rules.specs.Limits.{messageLimit, transcriptLength, awaitsNothing}
 use Rattle.rules.specs.Facts.{Facts, factsOf}
-use Rattle.rules.specs.Parts.{startOf, limitOf, countOf, Kept, keptBy, countKept, keptUsed, into, usedAfter}
+use Rattle.rules.specs.Parts.{startOf, limitOf, countOf, Kept, keptBy, countKept, keptUsed}
 use Rattle.rules.specs.Steps.{wholeLength, addedLength}
 use Rattle.rules.specs.Measurements.{measurementsExchange}
 use Rattle.rules.specs.Messages.{kindFor, exchangeFor, messageBytes}
@@ -63,14 +63,14 @@ signed-few : (f : Facts) (o : Operation) (g : Signer) → measurementsExchange f
 signed-few f o signer.Nobody = omega arith
 signed-few f o (signer.Slot k) = signature-most (f .identity .signature)
 
-signature-few : (f : Facts) (r : List ℕ) (m : Message) → exchangeFor f r m .signature ≤ signatureMost
-signature-few f r message.Version = omega arith
-signature-few f r message.Capabilities = omega arith
-signature-few f r message.Algorithms = omega arith
-signature-few f r message.Digests = omega arith
-signature-few f r (message.Certificate slot offset portion remainder) = omega arith
-signature-few f r (message.Challenge slot summary) = signature-most (f .identity .signature)
-signature-few f r (message.Measurements operation signer) = signed-few f operation signer
+signature-few : (f : Facts) (n : Negotiated) (r : List ℕ) (m : Message) → exchangeFor f n r m .signature ≤ signatureMost
+signature-few f n r message.Version = omega arith
+signature-few f n r message.Capabilities = omega arith
+signature-few f n r message.Algorithms = omega arith
+signature-few f n r message.Digests = omega arith
+signature-few f n r (message.Certificate slot offset portion remainder) = omega arith
+signature-few f n r (message.Challenge slot summary) = signature-most (f .identity .signature)
+signature-few f n r (message.Measurements operation signer) = signed-few f operation signer
 
 -- nothing written
 pub no-answer : (l : List ℕ) → l ≡ splice l 0 []
@@ -90,7 +90,7 @@ module _ (c : Contents) (v : Valid c) (s : State) (r nonce : List ℕ) (m : Mess
   -- what `accept` asks of the exchange
   pub measured : (lent : Lent) → Accepted (factsOf c) s (lengthsOf lent) (length nonce) r m n x → Measured x
   measured lent z =
-      let few : x .signature ≤ signatureMost = rw (z .told .exchange) (signature-few (factsOf c) r m) in
+      let few : x .signature ≤ signatureMost = rw (z .told .exchange) (signature-few (factsOf c) n r m) in
       record { signature = few; whole = answer-most c v s (lengthsOf lent) r nonce m n x z }
 
   -- written, then carried out

@@ -5,6 +5,7 @@ use rules::limits::CAPABILITIES_CODE;
 use rules::limits::MEASURING_FLAGS;
 use rules::limits::MESSAGE_LIMIT;
 use rules::limits::PLAIN_FLAGS;
+use rules::limits::VERSION_11;
 ghost use mathlib.Core.Path.{_≡_};
 ghost use Rattle.wire.specs.Bytes.{splice};
 ghost use Rattle.image.specs.Contents.{Contents};
@@ -26,8 +27,9 @@ pub(crate) fn write_capabilities(answer: &mut [u8], ix: Index, n: Negotiated)
 {
     let id = ix.identity;
     let bits = flags(ix);
+    let version = state::version_of(n);
     let head = [
-        state::version_of(n),
+        version,
         CAPABILITIES_CODE,
         0,
         0,
@@ -41,6 +43,9 @@ pub(crate) fn write_capabilities(answer: &mut [u8], ix: Index, n: Negotiated)
         0,
     ];
     wire::copy_into(answer, 0, &head);
+    if version == VERSION_11 {
+        return;
+    }
     wire::put_le(answer, 12, 4, MESSAGE_LIMIT);
     wire::put_le(answer, 16, 4, MESSAGE_LIMIT);
 }

@@ -9,7 +9,7 @@ use native.Mathlib.Nat.{zero-mul, one-mul, suc-mul, mul-le-mul}
 use lib.ListN.{length, length-append, length-drop}
 use lib.Dec.{eqb}
 use borrow.Author.Tests.{ltb-true, ne-eqb}
-use Rattle.wire.specs.Bytes.{part}
+use Rattle.wire.specs.Bytes.{leBytes, part}
 use Rattle.wire.specs.Pick.{pick}
 use Rattle.wire.proofs.Picks.{pick-case, pick-map}
 use Rattle.wire.proofs.Laws.{part-length}
@@ -19,12 +19,12 @@ use Rattle.image.specs.Contents.{Chain, Measurement, Summary, Contents, ValidCh
 use Rattle.image.specs.Held.{chainFor, slotDigest, slotChain, measurementFor, measurementOf, tcbOf, tcbSummary, fullSummary}
 use Rattle.image.specs.Held as held
 use Rattle.image.proofs.Sizes.{digest-most, signature-most}
-use Rattle.rules.specs.Limits.{messageLimit, nonceLength, headerLength, versionLength, capabilitiesLayout, algorithmsLength, certificateHead}
+use Rattle.rules.specs.Limits.{messageLimit, nonceLength, versionLength, version11, algorithmsLength, certificateHead}
 use Rattle.rules.specs.Facts.{factsOf, sigSize}
-use Rattle.rules.specs.Header.{errorBytes, refusedBytes}
+use Rattle.rules.specs.Header.{versionOf, errorBytes, refusedBytes}
 use Rattle.rules.specs.Steps.{wholeLength}
 use Rattle.rules.specs.Version.{versionBytes}
-use Rattle.rules.specs.Capabilities.{capabilitiesBytes}
+use Rattle.rules.specs.Capabilities.{capabilitiesLayout, capabilitiesHead, capabilitiesBytes}
 use Rattle.rules.specs.Algorithms.{algorithmsBytes}
 use Rattle.rules.specs.Digests.{digestsSize, joinedDigests, digestsBytes}
 use Rattle.rules.specs.Certificate.{certificateBytes}
@@ -38,7 +38,7 @@ use Rattle.rules.specs.declared.Signer.{Signer}
 use Rattle.rules.specs.declared.Signer.the-variants as signer
 use Rattle.rules.specs.declared.Message.{Message}
 use Rattle.rules.specs.declared.Message.the-variants as message
-use Rattle.rules.proofs.Told.{Fields}
+use Rattle.rules.proofs.Told.{Fields, layout-few}
 
 -- an ERROR has 4 or 8 bytes
 pub refused-short : (n : Negotiated) (step code extra size : ℕ) → length (refusedBytes n step code extra size) ≤ 8
@@ -49,9 +49,11 @@ version-length : (n : Negotiated) → length (versionBytes n) ≡ versionLength
 unfolding versionBytes
 version-length n = refl
 
-capabilities-length : (c : Contents) (n : Negotiated) → length (capabilitiesBytes c n) ≡ capabilitiesLayout
+capabilities-length : (c : Contents) (n : Negotiated) → length (capabilitiesBytes c n) ≡ capabilitiesLayout (versionOf n)
 unfolding capabilitiesBytes
-capabilities-length c n = refl
+capabilities-length c n =
+    pick-map (λ (l : List ℕ). length (capabilitiesHead c n ++ l)) (eqb (versionOf n) version11) [] (leBytes 4 messageLimit ++ leBytes 4 messageLimit) _ _
+    (λ _. refl) (λ _. refl)
 
 algorithms-length : (c : Contents) (n : Negotiated) → length (algorithmsBytes c n) ≡ algorithmsLength
 unfolding algorithmsBytes
@@ -179,7 +181,7 @@ measured-length c o (signer.Slot k) = refl
 module _ (c : Contents) (v : Valid c) (r : List ℕ) (n : Negotiated) where
   -- every answer, its signature left off, has the length that its exchange says
   pub message-length : (nonce : List ℕ) (m : Message) → length nonce ≡ nonceLength → Fields (factsOf c) n m
-      → length (messageBytes c nonce n m) ≡ exchangeFor (factsOf c) r m .length
+      → length (messageBytes c nonce n m) ≡ exchangeFor (factsOf c) n r m .length
   unfolding messageBytes
   message-length nonce message.Version e z = version-length n
   message-length nonce message.Capabilities e z = capabilities-length c n
@@ -192,9 +194,9 @@ module _ (c : Contents) (v : Valid c) (r : List ℕ) (n : Negotiated) where
       measurements-length c v nonce n operation signer e (z .fits) ∙ sym (measured-length c operation signer)
 
   -- and with its signature fits a message
-  pub message-most : (m : Message) → Fields (factsOf c) n m → wholeLength (exchangeFor (factsOf c) r m) ≤ messageLimit
+  pub message-most : (m : Message) → Fields (factsOf c) n m → wholeLength (exchangeFor (factsOf c) n r m) ≤ messageLimit
   message-most message.Version z = omega arith
-  message-most message.Capabilities z = omega arith
+  message-most message.Capabilities z = omega (arith, layout-few (versionOf n))
   message-most message.Algorithms z = omega arith
   message-most message.Digests z = omega (arith, digests-most c v)
   message-most (message.Certificate slot offset portion remainder) z = omega (arith, z .few)

@@ -1,5 +1,5 @@
--- The papers' flows, paper 01's starred lines and more, and those of request 3, as one claim: the plain box is computed on each. Assumes
--- nothing.
+-- The papers' flows, paper 01's starred lines and more, those of request 3, and lines again under 1.1, as one claim: the plain box is
+-- computed on each. Assumes nothing.
 use mathlib.Core.Path.{_≡_, refl}
 use mathlib.Core.Bool.{Bool, true, false}
 use mathlib.Core.List.{List, [], _∷_, _++_, map}
@@ -11,11 +11,11 @@ use Rattle.image.specs.Sizes.{digestSize, signatureSize}
 use Rattle.image.specs.Contents.{Contents, recordBytes, recordsBytes, identityBytes, imageBytes}
 use Rattle.image.specs.Reading.{unless, framesOf, identityFault, slotWrong, chainFault, measurementFault, summaryFault, recordFault, endFault, extended, readOn, readAll, reading}
 use Rattle.image.specs.Held.{chainFor, maskOf, measurementFor}
-use Rattle.rules.specs.State.{holdsOnly, phaseFits, selectionFits, awaitedFits, ownBounds, selectionHeld, awaitedLong, inBounds}
+use Rattle.rules.specs.State.{holdsOnly, phaseFits, selectionFits, awaitedFits, editionFits, ownBounds, selectionHeld, awaitedLong, inBounds}
 use Rattle.rules.specs.Header.{versionOf, refusedBytes}
-use Rattle.rules.specs.Steps.{kindOf, mustWait, serves, versionFor, inPhase, kindSteps, askedSteps, firstSteps, sizeSteps}
+use Rattle.rules.specs.Steps.{kindOf, mustWait, serves, carries, versionFits, inPhase, kindSteps, askedSteps, firstSteps, sizeSteps}
 use Rattle.rules.specs.Version.{versionBytes}
-use Rattle.rules.specs.Capabilities.{capabilitiesDecision, capabilitiesBytes}
+use Rattle.rules.specs.Capabilities.{sizesFit, capabilitiesDecision, capabilitiesBytes}
 use Rattle.rules.specs.Algorithms.{structuresFit, algorithmsDecision, algorithmsBytes}
 use Rattle.rules.specs.Digests.{digestsDecision, joinedDigests, digestsBytes}
 use Rattle.rules.specs.Certificate.{portionOf, portionDecision, certificateDecision, certificateBytes}
@@ -86,7 +86,11 @@ after p [] = p
 after p (x ∷ xs) = after (plainNext p x) xs
 
 abbrev pub signs : Plain → List Said → Heard
-signs p l = record { said = l; prefix = prefixOf (p .whose); hashed = toHash (p .whose) (p .parts) }
+signs p l = record {
+  said = l;
+  prefix = prefixOf (p .negotiated) (p .whose);
+  hashed = toHash (p .negotiated) (p .whose) (p .parts);
+}
 
 abbrev pub heard : Plain → List Feed → Heard
 heard p xs = signs (after p xs) (saidFrom p xs)
@@ -118,7 +122,7 @@ abbrev pub getVersion : List ℕ
 getVersion = 0x10 ∷ 0x84 ∷ 0 ∷ 0 ∷ []
 
 abbrev pub version : List ℕ
-version = 0x10 ∷ 0x04 ∷ 0 ∷ 0 ∷ 0 ∷ 1 ∷ 0 ∷ 0x12 ∷ []
+version = 0x10 ∷ 0x04 ∷ 0 ∷ 0 ∷ 0 ∷ 2 ∷ 0 ∷ 0x11 ∷ 0 ∷ 0x12 ∷ []
 
 abbrev pub getCapabilities : ℕ → List ℕ
 getCapabilities peer = 0x12 ∷ 0xE1 ∷ replicate 10 0 ++ (leBytes 4 peer ++ (0x00 ∷ 0x12 ∷ 0 ∷ 0 ∷ []))
@@ -144,6 +148,27 @@ exchangedAt peer = getVersion ∷ version ∷ getCapabilities peer ∷ capabilit
 
 abbrev pub exchanged : List (List ℕ)
 exchanged = exchangedAt 4608
+
+-- Under 1.1 GET_CAPABILITIES and CAPABILITIES have 12 bytes; all other messages differ in the version byte alone
+
+abbrev pub eleven : List ℕ → List ℕ
+eleven [] = []
+eleven (x ∷ xs) = 0x11 ∷ xs
+
+abbrev pub getCapabilities11 : List ℕ
+getCapabilities11 = 0x11 ∷ 0xE1 ∷ replicate 10 0
+
+abbrev pub capabilities11 : List ℕ
+capabilities11 = 0x11 ∷ 0x61 ∷ 0 ∷ 0 ∷ 0 ∷ 0x0E ∷ 0 ∷ 0 ∷ 0x16 ∷ 0 ∷ 0 ∷ 0 ∷ []
+
+abbrev pub connected11 : List (List ℕ) → List Feed
+connected11 l = map ask (getVersion ∷ getCapabilities11 ∷ map eleven (negotiate ∷ l))
+
+abbrev pub agreed11 : List (List ℕ) → List (List ℕ)
+agreed11 l = version ∷ capabilities11 ∷ map eleven (algorithms ∷ l)
+
+abbrev pub exchanged11 : List (List ℕ)
+exchanged11 = getVersion ∷ version ∷ getCapabilities11 ∷ capabilities11 ∷ map eleven (negotiate ∷ algorithms ∷ [])
 
 -- the same three with bytes in every reserved field
 abbrev pub marked : List (List ℕ)
@@ -235,7 +260,7 @@ gives calls expected = record { from = freshPlain; calls = calls; expected = exp
 -- a box in phase 3, A and B empty, whose M holds so many zeros
 abbrev pub holding : ℕ → Plain
 holding n = record {
-  negotiated = record { phase = 3; peer = 4608; selection = 1 };
+  negotiated = record { phase = 3; peer = 4608; selection = 1; edition = 0x12 };
   parts = record { a = []; b = []; m = replicate n 0 };
   whose = 0;
   answer = [];
@@ -244,7 +269,7 @@ holding n = record {
 -- "Flows on the bench", the marked lines
 abbrev pub starred : List Flow
 starred =
-    -- "10 84 00 00 → 10 04 00 00 00 01 00 12"
+    -- "10 84 00 00 →", and paper 02, 4: "Flow one's answer becomes 10 04 00 00 00 02 00 11 00 12"
     gives (map ask (getVersion ∷ [])) (answers (version ∷ []))
     -- "12 E1, 10 zeros, 00 12 00 00 00 12 00 00 → 12 61 00 00 00 0E 00 00 16 00 00 00 00 12 00 00 00 12 00 00"
     ∷ gives (map ask (getVersion ∷ getCapabilities 4608 ∷ [])) (answers (version ∷ capabilities ∷ []))
@@ -299,7 +324,7 @@ others =
 -- a box in phase 3 that awaits a signature for a whole answer, with a byte in B and in M
 abbrev pub waiting : ℕ → Plain
 waiting whose = record {
-  negotiated = record { phase = 3; peer = 4608; selection = 1 };
+  negotiated = record { phase = 3; peer = 4608; selection = 1; edition = 0x12 };
   parts = record { a = []; b = 1 ∷ []; m = 2 ∷ [] };
   whose = whose;
   answer = unsigned counted;
@@ -350,13 +375,44 @@ refusals =
     (exchanged ++ (getDigests ∷ digests ∷ challenge 0 0 ∷ challenged [] ∷ [])))
     ∷ []
 
+-- paper 02, 4: the first three lines, offsets 99 and 100 and slot 8 again under 1.1, and what is another there
+abbrev pub under11 : List Flow
+under11 =
+    gives (map ask (getVersion ∷ getCapabilities11 ∷ [])) (answers (version ∷ capabilities11 ∷ []))
+    ∷ gives (connected11 []) (answers (agreed11 []))
+    ∷ gives (connected11 (getPortion 99 ∷ getPortion 100 ∷ [])) (answers (agreed11 (portion 1 0 (99 ∷ []) ∷ refused 0x01 0 ∷ [])))
+    ∷ gives (connected11 (challenge 8 0 ∷ [])) (answers (agreed11 (refused 0x01 0 ∷ [])))
+    -- "GET_CAPABILITIES picks by its version byte", of the two that pass before a choice; 11 bytes are too few; the next restart chooses anew
+    ∷ gives (map ask (getVersion ∷ (0x10 ∷ 0xE1 ∷ replicate 18 0) ∷ (0x13 ∷ 0xE1 ∷ replicate 18 0) ∷ (0x11 ∷ 0xE1 ∷ replicate 9 0) ∷ getCapabilities11
+    ∷ getVersion ∷ getCapabilities 42 ∷ getVersion ∷ getCapabilities11 ∷ []))
+    (answers (version ∷ (0x10 ∷ 0x7F ∷ 0x41 ∷ 0 ∷ []) ∷ (0x10 ∷ 0x7F ∷ 0x41 ∷ 0 ∷ []) ∷ (0x10 ∷ 0x7F ∷ 0x01 ∷ 0 ∷ []) ∷ capabilities11
+    ∷ version ∷ capabilities ∷ version ∷ capabilities11 ∷ []))
+    -- "Later requests must carry the chosen byte, else 0x41 .. and answers and ERROR messages carry it too"
+    ∷ gives (map ask (getVersion ∷ getCapabilities11 ∷ negotiate ∷ eleven negotiate ∷ getDigests ∷ (0x10 ∷ 0x81 ∷ 0 ∷ 0 ∷ []) ∷ eleven getVersion
+    ∷ eleven getDigests ∷ []))
+    (answers (version ∷ capabilities11 ∷ eleven (refused 0x41 0) ∷ eleven algorithms ∷ eleven (refused 0x41 0) ∷ eleven (refused 0x41 0)
+    ∷ eleven (refused 0x41 0) ∷ eleven digests ∷ []))
+    -- "signatures cover the hash of A then B .. with no 100-byte prefix": of GET_CAPABILITIES 12 bytes are hashed, and no pad
+    ∷ gives (map ask (getVersion ∷ padded getCapabilities11 ∷ map eleven (negotiate ∷ getDigests ∷ challenge 0 0xFF ∷ [])))
+    (awaiting (agreed11 (digests ∷ unsigned (challenged whole) ∷ [])) []
+    (exchanged11 ++ map eleven (getDigests ∷ digests ∷ challenge 0 0xFF ∷ challenged whole ∷ [])))
+    -- "or of M alone"; "under 1.1 step 2 answers 0x01", which keeps M
+    ∷ gives (connected11 (countMeasurements ∷ (countMeasurements ++ replicate 4605 0) ∷ signMeasurements 7 ∷ []))
+    (awaiting (agreed11 (counted ∷ refused 0x01 0 ∷ unsigned measurements ∷ [])) []
+    (map eleven (countMeasurements ∷ counted ∷ signMeasurements 7 ∷ measurements ∷ [])))
+    -- finished, and by a chip that failed
+    ∷ gives (connected11 (challenge 0 0 ∷ []) ++ (finish true ∷ map ask (eleven (signMeasurements 7) ∷ []) ++ (finish false ∷ [])))
+    (answers (agreed11 (unsigned (challenged []) ∷ (challenged [] ++ signature) ∷ unsigned measurements ∷ refused 0x05 0 ∷ [])))
+    ∷ []
+
 abbrev pub all : List Flow
-all = starred ++ (others ++ (finishings ++ refusals))
+all = starred ++ (others ++ (finishings ++ (refusals ++ under11)))
 
 pub flows : map (λ (f : Flow). heard (f .from) (f .calls)) all ≡ map (λ (f : Flow). f .expected) all
 unfolding pick unless framesOf identityFault slotWrong chainFault measurementFault summaryFault recordFault endFault extended readOn readAll
     reading digestSize signatureSize recordBytes recordsBytes identityBytes imageBytes chainFor maskOf measurementFor holdsOnly
-    phaseFits selectionFits awaitedFits ownBounds selectionHeld awaitedLong inBounds versionOf refusedBytes kindOf mustWait serves versionFor inPhase
+    phaseFits selectionFits awaitedFits editionFits ownBounds selectionHeld awaitedLong inBounds versionOf refusedBytes kindOf mustWait serves
+    carries versionFits inPhase sizesFit
     kindSteps askedSteps firstSteps sizeSteps versionBytes
     capabilitiesDecision capabilitiesBytes structuresFit algorithmsDecision algorithmsBytes digestsDecision joinedDigests digestsBytes
     portionOf portionDecision certificateDecision certificateBytes summaryFits challengeDecision challengeBytes signerFits

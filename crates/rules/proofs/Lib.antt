@@ -6,6 +6,8 @@ pub mod Ready
 pub mod SameFacts
 pub mod Hashed
 pub mod Refusals
+pub mod AsFor12
 pub mod Flows
 pub mod OtherImages
+pub mod EditionFlows
 pub mod Settled

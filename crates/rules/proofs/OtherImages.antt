@@ -11,7 +11,7 @@ use Rattle.rules.specs.declared.Negotiated.{Negotiated}
 use Rattle.rules.specs.declared.Used.{Used}
 use Rattle.rules.specs.declared.State.{State}
 use Rattle.rules.specs.declared.Reply.the-variants as reply
-use Rattle.rules.proofs.Flows.{rising, nonce, lent, joined, saying, refused, getDigests, challenge, countMeasurements}
+use Rattle.rules.proofs.Flows.{rising, nonce, lent, joined, saying, refused, getVersion, version, getDigests, challenge, countMeasurements}
 use Rattle.rules.proofs.Flows.{challengePrefix, measurementsPrefix}
 
 -- n bytes that go on
@@ -58,10 +58,16 @@ asks c r = request (imageBytes c) lent r nonce
 abbrev pub finishes : Contents → Bool → List ℕ → Feed
 finishes c ok s = finishing (imageBytes c) lent ok s
 
--- a state by its numbers: phase, peer's size and selection; the bytes of A, B and M; whose signature is awaited, for an answer of which
--- length
+-- a state by its numbers: edition, phase, peer's size and selection; the bytes of A, B and M; whose signature is awaited, for an answer of
+-- which length
+abbrev pub speak : ℕ → ℕ → ℕ → ℕ → Negotiated
+speak edition phase peer selection = record { phase = phase; peer = peer; selection = selection; edition = edition }
+
+-- 1.2 from phase 2 on
 abbrev pub agree : ℕ → ℕ → ℕ → Negotiated
-agree phase peer selection = record { phase = phase; peer = peer; selection = selection }
+agree zero peer selection = speak 0 0 peer selection
+agree (suc zero) peer selection = speak 0 1 peer selection
+agree (suc (suc phase)) peer selection = speak 0x12 (suc (suc phase)) peer selection
 
 abbrev pub uses : ℕ → ℕ → ℕ → Used
 uses a b m = record { a = a; b = b; m = m }
@@ -210,19 +216,35 @@ failedWith c size s asked answer =
 -- boxes that wait for GET_CAPABILITIES, for NEGOTIATE_ALGORITHMS, and for the rest
 
 abbrev pub versioned : State
-versioned = idle (agree 1 0 0) (uses 12 0 0)
+versioned = idle (agree 1 0 0) (uses 14 0 0)
 
 abbrev pub capable : State
-capable = idle (agree 2 4608 0) (uses 52 0 0)
+capable = idle (agree 2 4608 0) (uses 54 0 0)
 
 abbrev pub negotiated : ℕ → ℕ → State
 negotiated selection a = idle (agree 3 4608 selection) (uses a 0 0)
 
 abbrev pub ready : State
-ready = negotiated 1 120
+ready = negotiated 1 122
 
 abbrev pub invalid : List ℕ
 invalid = refused 0x01 0
+
+-- a number for the host
+abbrev pub telling : ℕ → Said
+telling n = record { reply = reply.Number n; bytes = [] }
+
+-- A GET_VERSION tells whether a state is within its bounds: it is accepted in every phase, "leading to 1 with all else cleared".
+
+abbrev pub outside : Contents → State → Claim
+outside c s = stays s (asks c getVersion ∷ []) (telling 14 ∷ [])
+
+abbrev pub within : Contents → State → Claim
+within c s = leads s (asks c getVersion ∷ []) (saying version ∷ []) versioned
+
+-- a request of 4 bytes
+abbrev pub brief : ℕ → ℕ → List ℕ
+brief version code = version ∷ code ∷ 0 ∷ 0 ∷ []
 
 -- an ERROR in phase 0 or 1
 abbrev pub early : ℕ → List ℕ
@@ -236,11 +258,11 @@ capabilityFlows =
     (getCapabilities 41 4608 ∷ getCapabilities 0x10000 0xFFFF ∷ getCapabilities 0x0100002A 0x2A ∷ take 19 (getCapabilities 42 4608)
     ∷ (getCapabilities 43 42 ++ (1 ∷ [])) ∷ getCapabilities 42 42 ∷ [])
     (replicate 5 (early 0x01) ++ (capabilities 31 0x16 ∷ []))
-    (idle (agree 2 42 0) (uses 52 0 0))
+    (idle (agree 2 42 0) (uses 54 0 0))
     ∷ answering second versioned (getCapabilities 0x10000 0x10000 ∷ []) (capabilities 31 0x16 ∷ [])
-    (idle (agree 2 0x10000 0) (uses 52 0 0))
+    (idle (agree 2 0x10000 0) (uses 54 0 0))
     ∷ answering second versioned (getCapabilities 42 0x01000000 ∷ []) (capabilities 31 0x16 ∷ [])
-    (idle (agree 2 42 0) (uses 52 0 0))
+    (idle (agree 2 42 0) (uses 54 0 0))
     -- "flags at 8 = 0x06, or 0x16 with measurements"
     ∷ answering third versioned (getCapabilities 4608 4608 ∷ []) (capabilities 0 0x06 ∷ []) capable
     ∷ []
@@ -267,13 +289,13 @@ structureFlows =
     -- all four types, with 1, 0, 0 and 2 entries
     ∷ answering second capable
     (structured 4 60 (structure 2 0x21 (rising 1 4 ++ structure 3 0x20 (structure 4 0x20 (structure 5 0x22 (replicate 8 6))))) ∷ [])
-    (algorithms 1 4 0x80 2 ∷ []) (negotiated 1 (52 + 60 + 36))
+    (algorithms 1 4 0x80 2 ∷ []) (negotiated 1 (54 + 60 + 36))
     -- extended entries: 4·E1 + 4·E2 bytes, then a structure with 15 entries
     ∷ answering second capable (negotiate 1 108 1 0x80 2 1 2 (replicate 12 9 ++ structure 3 0x2F (replicate 60 9)) ∷ [])
-    (algorithms 1 4 0x80 2 ∷ []) (negotiated 1 (52 + 108 + 36))
+    (algorithms 1 4 0x80 2 ∷ []) (negotiated 1 (54 + 108 + 36))
     -- Length 128; bytes behind it do not count
     ∷ answering second capable (negotiate 0 128 1 0x80 2 24 0 (replicate 98 9) ∷ [])
-    (algorithms 1 4 0x80 2 ∷ []) (negotiated 1 (52 + 128 + 36))
+    (algorithms 1 4 0x80 2 ∷ []) (negotiated 1 (54 + 128 + 36))
     ∷ []
 
 -- "Our two bits must be set"; "selection at 6 (1 if measurements exist and the peer set bit 0, else 0), MeasurementHashAlgo at 8 (bit hash
@@ -286,34 +308,34 @@ selectionFlows =
     ∷ negotiate 0 32 1 0x80 0 0 0 [] ∷ [])
     (replicate 4 invalid)
     -- more bits, of which ours are shown
-    ∷ answering second capable (negotiate 0 32 0xFF 0xFFFFFFFF 0xFFFFFFFF 0 0 [] ∷ []) (algorithms 1 4 0x80 2 ∷ []) (negotiated 1 120)
-    ∷ answering second capable (negotiate 0 32 3 0x180 6 0 0 [] ∷ []) (algorithms 1 4 0x80 2 ∷ []) (negotiated 1 120)
+    ∷ answering second capable (negotiate 0 32 0xFF 0xFFFFFFFF 0xFFFFFFFF 0 0 [] ∷ []) (algorithms 1 4 0x80 2 ∷ []) (negotiated 1 122)
+    ∷ answering second capable (negotiate 0 32 3 0x180 6 0 0 [] ∷ []) (algorithms 1 4 0x80 2 ∷ []) (negotiated 1 122)
     -- bit 0 not set
-    ∷ answering second capable (negotiate 0 32 0xFE 0x80 2 0 0 [] ∷ []) (algorithms 0 0 0x80 2 ∷ []) (negotiated 0 120)
+    ∷ answering second capable (negotiate 0 32 0xFE 0x80 2 0 0 [] ∷ []) (algorithms 0 0 0x80 2 ∷ []) (negotiated 0 122)
     -- no measurements
-    ∷ answering third capable (negotiate 0 32 1 0x100 4 0 0 [] ∷ []) (algorithms 0 0 0x100 4 ∷ []) (negotiated 0 120)
+    ∷ answering third capable (negotiate 0 32 1 0x100 4 0 0 [] ∷ []) (algorithms 0 0 0x100 4 ∷ []) (negotiated 0 122)
     ∷ []
 
 abbrev pub certificateFlows : List Claim
 certificateFlows =
-    answering second ready (getDigests ∷ []) (digests ∷ []) (idle (agree 3 4608 1) (uses 120 152 0))
-    ∷ answering third (negotiated 0 120) (getDigests ∷ []) ((0x12 ∷ 0x01 ∷ 0 ∷ 0x81 ∷ rising 1 64 ++ rising 9 64) ∷ [])
-    (idle (agree 3 4608 0) (uses 120 136 0))
+    answering second ready (getDigests ∷ []) (digests ∷ []) (idle (agree 3 4608 1) (uses 122 152 0))
+    ∷ answering third (negotiated 0 122) (getDigests ∷ []) ((0x12 ∷ 0x01 ∷ 0 ∷ 0x81 ∷ rising 1 64 ++ rising 9 64) ∷ [])
+    (idle (agree 3 4608 0) (uses 122 136 0))
     -- "Slot filled, offset below L, length not 0": slots 1 and 8 are not filled; 7 bytes
     ∷ refusing second ready
     (getCertificate 1 0 9 ∷ getCertificate 8 0 9 ∷ getCertificate 2 61 1 ∷ getCertificate 3 53 1 ∷ getCertificate 2 0 0
     ∷ take 7 (getCertificate 2 0 9) ∷ [])
     (replicate 6 invalid)
-    ∷ refusing third (negotiated 0 120) (getCertificate 7 1100 1 ∷ []) (invalid ∷ [])
+    ∷ refusing third (negotiated 0 122) (getCertificate 7 1100 1 ∷ []) (invalid ∷ [])
     -- "The portion is the least of length, L − offset, peer's size − 8, and 1,024"; "slot in the low half of Param1"
     ∷ answering second ready (getCertificate 0x12 2 1 ∷ getCertificate 0xF3 2 0x0100 ∷ [])
-    (certificate 2 58 (9 ∷ []) ∷ certificate 3 0 (bytes 102 51) ∷ []) (idle (agree 3 4608 1) (uses 120 (17 + 67) 0))
-    ∷ answering third (negotiated 0 120)
+    (certificate 2 58 (9 ∷ []) ∷ certificate 3 0 (bytes 102 51) ∷ []) (idle (agree 3 4608 1) (uses 122 (17 + 67) 0))
+    ∷ answering third (negotiated 0 122)
     (getCertificate 7 0 0xFFFF ∷ getCertificate 0x17 1000 0xFFFF ∷ getCertificate 7 300 0x0100 ∷ [])
     (certificate 7 76 (leBytes 2 1100 ++ bytes 11 1022) ∷ certificate 7 0 (bytes 1009 100) ∷ certificate 7 544 (bytes 309 256) ∷ [])
-    (idle (agree 3 4608 0) (uses 120 (1040 + 116 + 272) 0))
-    ∷ answering second (idle (agree 3 50 1) (uses 120 0 0)) (getCertificate 0 2 0xFFFF ∷ []) (certificate 0 16 (bytes 2 42) ∷ [])
-    (idle (agree 3 50 1) (uses 120 58 0))
+    (idle (agree 3 4608 0) (uses 122 (1040 + 116 + 272) 0))
+    ∷ answering second (idle (agree 3 50 1) (uses 122 0 0)) (getCertificate 0 2 0xFFFF ∷ []) (certificate 0 16 (bytes 2 42) ∷ [])
+    (idle (agree 3 50 1) (uses 122 58 0))
     ∷ []
 
 -- "CHALLENGE, 36 bytes: all of Param1 a filled slot, Param2 0, 1 or 0xFF, only 0 if no measurement specification is selected"
@@ -322,7 +344,7 @@ challengeFlows =
     refusing second ready
     (challenge 1 0 ∷ challenge 8 0 ∷ challenge 0x12 0 ∷ challenge 2 2 ∷ challenge 2 0xFE ∷ take 35 (challenge 2 0) ∷ [])
     (replicate 6 invalid)
-    ∷ refusing second (negotiated 0 120) (challenge 2 1 ∷ challenge 2 0xFF ∷ []) (replicate 2 invalid)
+    ∷ refusing second (negotiated 0 122) (challenge 2 1 ∷ challenge 2 0xFF ∷ []) (replicate 2 invalid)
     -- slot, mask and digest; no summary, the TCB's, all
     ∷ awaited second 96 (negotiated 0 0) (challenge 2 0) challengePrefix (challenged2 [])
     (waits (agree 3 4608 0) (uses 0 122 0) 1 182)
@@ -347,7 +369,7 @@ measurementFlows =
     (countMeasurements ∷ getMeasurements 4 0 2 ∷ getUnsigned 17 ∷ getMeasurements 0xFE 239 2 ∷ getUnsigned 0xFF ∷ [])
     (counted 0 ∷ counted 0 ∷ measurements 0 0 1 (block 17 3 (rising 70 48)) ∷ measurements 0 0 1 (block 239 1 (rising 80 48))
     ∷ measurements 0 0 5 allBlocks ∷ [])
-    (idle (agree 3 4608 1) (uses 120 0 (5 * 46 + 2 * 55 + 275)))
+    (idle (agree 3 4608 1) (uses 122 0 (5 * 46 + 2 * 55 + 275)))
     -- signed by slot 2, in the low half of 0x32, or by slot 3: all, one, the count
     ∷ awaited second 96 (negotiated 1 0) (getMeasurements 0xFF 0xFF 0x32) measurementsPrefix (measurements 0 2 5 allBlocks)
     (waits (agree 3 4608 1) (uses 0 0 (37 + 317)) 2 413)
@@ -357,23 +379,23 @@ measurementFlows =
     (waits (agree 3 4608 1) (uses 0 0 79) 2 138)
     ∷ []
 
--- "Finishing writes the S bytes at the end of the answer, or, if the chip failed, only 12 7F 05 00 .. Either way B (or M) is emptied"
+-- "Finishing writes the S bytes at the end of the answer, or, if the chip failed, only 12 7F 05 00 .. Either way B (or M) is emptied"; here under 1.2
 abbrev pub finishingFlows : List Claim
 finishingFlows =
     finishedWith second ready (challenge 2 1) (challenged2 (rising 90 48)) (rising 150 96)
     ∷ failedWith second 96 ready (challenge 3 0) (challenged3 [])
     ∷ finishedWith second ready (getMeasurements 1 2 2) (measurements 0 2 1 (block 2 1 (rising 50 48))) (rising 150 96)
     ∷ failedWith second 96 ready (getMeasurements 1 0 3) (counted 3)
-    ∷ finishedWith third (negotiated 0 120) (challenge 7 0) (challenged 7 0x81 (rising 9 64) []) (rising 50 132)
+    ∷ finishedWith third (negotiated 0 122) (challenge 7 0) (challenged 7 0x81 (rising 9 64) []) (rising 50 132)
     ∷ []
 
 -- "B is emptied by an accepted GET_MEASUREMENTS, M by any other accepted request"
 abbrev pub partFlows : List Claim
 partFlows =
     answering second ready (getDigests ∷ countMeasurements ∷ []) (digests ∷ counted 0 ∷ [])
-    (idle (agree 3 4608 1) (uses 120 0 46))
+    (idle (agree 3 4608 1) (uses 122 0 46))
     ∷ answering second ready (countMeasurements ∷ getDigests ∷ []) (counted 0 ∷ digests ∷ [])
-    (idle (agree 3 4608 1) (uses 120 152 0))
+    (idle (agree 3 4608 1) (uses 122 152 0))
     -- so of a count before GET_DIGESTS or GET_CERTIFICATE nothing is hashed
     ∷ signing (negotiated 1 0) (map (asks second) (countMeasurements ∷ getDigests ∷ getMeasurements 1 0 2 ∷ []))
     (map saying (counted 0 ∷ digests ∷ unsigned 96 (counted 2) ∷ []))

@@ -1,10 +1,9 @@
 -- The one walk over the tests of a request. Where no number came, the host's tests passed; where a request was accepted, steps 1–6 passed too,
 -- and the decision is that of its kind's own steps. Assumes nothing.
-use mathlib.Core.Path.{_≡_, refl, sym, subst, _∙_}
-use mathlib.Core.Bool.{Bool, true, false}
+use mathlib.Core.Path.{_≡_, refl, sym, subst}
+use mathlib.Core.Bool.{true, false}
 use mathlib.Core.List.{List}
 use Prim.Native.Nat.{ℕ, _≤_}
-use native.Mathlib.Omega.{arith}
 use lib.ListN.{length}
 use borrow.Author.Tests.{ltb-false, eqb-true}
 use Rattle.wire.proofs.Picks.{not-first, not-second}
@@ -12,7 +11,7 @@ use Rattle.rules.specs.Limits.{messageLimit, transcriptLength, nonceLeng
 use Rattle.rules.specs.Facts.{Facts}
 use Rattle.rules.specs.State.{inBounds}
 use Rattle.rules.specs.Header.{versionByte, codeByte}
-use Rattle.rules.specs.Steps.{kindOf, mustWait, serves, versionFor, inPhase, kindSteps, askedSteps, firstSteps}
+use Rattle.rules.specs.Steps.{kindOf, mustWait, serves, versionFits, inPhase, kindSteps, askedSteps, firstSteps}
 use Rattle.rules.specs.Decisions.{lastSteps, requestDecision, decisionOf}
 use Rattle.rules.specs.declared.State.{State}
 use Rattle.rules.specs.declared.Lengths.{Lengths}
@@ -52,7 +51,7 @@ pub record Passed (f : Facts) (s : State) (r : List ℕ) (d : Decision) : Type 0
   pub kind : Kind
   pub asked : kindOf (codeByte r) ≡ Served kind
   pub served : serves f kind ≡ true
-  pub version : versionByte r ≡ versionFor kind
+  pub version : versionFits (s .negotiated) (versionByte r) kind ≡ true
   pub phase : inPhase (s .negotiated) kind ≡ true
   pub decided : lastSteps f s r kind ≡ d
 
@@ -81,7 +80,7 @@ module _ (f : Facts) (s : State) (r : List ℕ) (d : Decision) where
         let a = not-second _ _ _ _ g (no _ _ _ _) in
         let b = not-second _ _ _ _ (a .1) (no _ _ _ _) in
         let c = not-second _ _ _ _ (b .1) (no _ _ _ _) in
-        record { least = l; most = m; free = w; kind = k; asked = x; served = a .0; version = eqb-true _ _ (b .0); phase = c .0; decided = c .1 }
+        record { least = l; most = m; free = w; kind = k; asked = x; served = a .0; version = b .0; phase = c .0; decided = c .1 }
     by-code l m w Unserved x g = absurd (no _ _ _ _ g)
 
     pub passed : requestDecision f s r ≡ d → Passed f s r d

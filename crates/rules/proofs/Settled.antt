@@ -1,5 +1,5 @@
 -- Host numbers 11 to 16 in their order, the state's bounds, the steps in theirs, and every limit from both sides, as flows; with those of
--- OtherImages they are one claim, which the plain box computes. Beside it the table of steps. A definition that says another number fails
+-- OtherImages and EditionFlows they are one claim, which the plain box computes. Beside it the table of steps. A definition that says another number fails
 -- here. Assumes nothing.
 use mathlib.Core.Path.{_≡_, refl}
 use mathlib.Core.Bool.{true, false}
@@ -13,11 +13,12 @@ use Rattle.image.specs.Reading.{unless, framesOf, identityFault, slotWrong, cha
 use Rattle.image.specs.Reading.{endFault, extended, readOn, readAll, reading}
 use Rattle.image.specs.Held.{chainFor, maskOf, measurementFor}
 use Rattle.rules.specs.Facts.{factsOf}
-use Rattle.rules.specs.State.{holdsOnly, phaseFits, selectionFits, awaitedFits, ownBounds, selectionHeld, awaitedLong, inBounds}
+use Rattle.rules.specs.State.{holdsOnly, phaseFits, selectionFits, awaitedFits, editionFits, ownBounds, selectionHeld}
+use Rattle.rules.specs.State.{awaitedLong, inBounds}
 use Rattle.rules.specs.Header.{versionOf, refusedBytes}
-use Rattle.rules.specs.Steps.{kindOf, mustWait, serves, versionFor, inPhase, kindSteps, askedSteps, firstSteps, sizeSteps}
+use Rattle.rules.specs.Steps.{kindOf, mustWait, serves, carries, versionFits, inPhase, kindSteps, askedSteps, firstSteps, sizeSteps}
 use Rattle.rules.specs.Version.{versionBytes}
-use Rattle.rules.specs.Capabilities.{capabilitiesDecision, capabilitiesBytes}
+use Rattle.rules.specs.Capabilities.{sizesFit, capabilitiesDecision, capabilitiesBytes}
 use Rattle.rules.specs.Algorithms.{structuresFit, algorithmsDecision, algorithmsBytes}
 use Rattle.rules.specs.Digests.{digestsDecision, joinedDigests, digestsBytes}
 use Rattle.rules.specs.Certificate.{portionOf, portionDecision, certificateDecision, certificateBytes}
@@ -28,22 +29,19 @@ use Rattle.rules.specs.Messages.{messageBytes}
 use Rattle.rules.specs.Decisions.{lastSteps, requestDecision, decisionOf}
 use Rattle.rules.specs.Effects.{effectOf, effectBy}
 use Rattle.rules.specs.Signing.{prefixOf, toHash, finishOf, finishBy}
-use Rattle.rules.specs.Plain.{Feed, request, finishing, Said, stateOf, plainSaid, plainNext}
+use Rattle.rules.specs.Plain.{Plain, Feed, request, finishing, stateOf, plainSaid, plainNext}
 use Rattle.rules.specs.declared.Used.{Used}
 use Rattle.rules.specs.declared.State.{State}
 use Rattle.rules.specs.declared.Lengths.{Lengths}
 use Rattle.rules.specs.declared.Decision.{Decision}
 use Rattle.rules.specs.declared.Decision.the-variants.{Refused}
-use Rattle.rules.specs.declared.Reply.the-variants as reply
 use Rattle.rules.proofs.Flows.{rising, nonce, bench, saidFrom, after, saying, refused, tooLarge, getVersion, version}
 use Rattle.rules.proofs.Flows.{getDigests, challenge, countMeasurements, challengePrefix, measurementsPrefix}
 use Rattle.rules.proofs.OtherImages.{bytes, second, third, asks, finishes, agree, uses, waits, idle, boxIn, Claim, leads}
 use Rattle.rules.proofs.OtherImages.{stays, answering, refusing, signing, getCertificate, certificate, challenged2}
 use Rattle.rules.proofs.OtherImages.{getMeasurements, getUnsigned, measurements, allBlocks, digests, unsigned, versioned}
-use Rattle.rules.proofs.OtherImages.{capable, negotiated, ready, invalid, early, imageFlows}
-
-abbrev pub telling : ℕ → Said
-telling n = record { reply = reply.Number n; bytes = [] }
+use Rattle.rules.proofs.OtherImages.{capable, negotiated, ready, invalid, early, telling, outside, within, brief, imageFlows}
+use Rattle.rules.proofs.EditionFlows.{ready11, editionFlows}
 
 -- buffers of these lengths
 abbrev pub lending : ℕ → ℕ → Lengths
@@ -95,15 +93,7 @@ numberFlows =
     ∷ leads fresh (request (imageBytes second) (lending 16385 4609) getVersion nonce ∷ []) (saying version ∷ []) versioned
     ∷ []
 
--- A GET_VERSION tells whether a state is within its bounds: it is accepted in every phase, "leading to 1 with all else cleared".
-
-abbrev pub outside : Contents → State → Claim
-outside c s = stays s (asks c getVersion ∷ []) (telling 14 ∷ [])
-
-abbrev pub within : Contents → State → Claim
-within c s = leads s (asks c getVersion ∷ []) (saying version ∷ []) versioned
-
--- the same where the state says that a signature is awaited: what is to be signed is shown all the same
+-- a state out of its bounds that says that a signature is awaited: what is to be signed is shown all the same
 abbrev pub unheard : Contents → List ℕ → State → Claim
 unheard c prefix s = record {
   from = s;
@@ -116,26 +106,26 @@ unheard c prefix s = record {
 
 abbrev pub boundFlows : List Claim
 boundFlows =
-    -- "in phases 0, 1, 2 A holds exactly 0, 12, 52 and B and M 0"
+    -- "in phases 0, 1, 2 A holds exactly" 0, 14 and, under 1.2, 54 "and B and M 0"
     map (λ (u : Used). outside second (idle (agree 0 0 0) u)) (uses 1 0 0 ∷ uses 0 1 0 ∷ uses 0 0 1 ∷ [])
-    ++ (map (λ (u : Used). outside second (idle (agree 1 0 0) u)) (uses 11 0 0 ∷ uses 13 0 0 ∷ uses 12 1 0 ∷ uses 12 0 1 ∷ [])
-    ++ (map (λ (u : Used). outside second (idle (agree 2 42 0) u)) (uses 51 0 0 ∷ uses 53 0 0 ∷ uses 52 1 0 ∷ uses 52 0 1 ∷ [])
+    ++ (map (λ (u : Used). outside second (idle (agree 1 0 0) u)) (uses 13 0 0 ∷ uses 15 0 0 ∷ uses 14 1 0 ∷ uses 14 0 1 ∷ [])
+    ++ (map (λ (u : Used). outside second (idle (agree 2 42 0) u)) (uses 53 0 0 ∷ uses 55 0 0 ∷ uses 54 1 0 ∷ uses 54 0 1 ∷ [])
     -- "A, B, M use at most 512, 8,192, 7,680"
     ++ (map (λ (u : Used). outside second (idle (agree 3 42 1) u)) (uses 513 0 0 ∷ uses 0 8193 0 ∷ uses 0 0 7681 ∷ [])
     ++ (map (outside second)
     -- "phase 0–3; phase 2 or 3 has peer size at least 42"
-    (idle (agree 4 4608 0) (uses 0 0 0) ∷ idle (agree 2 41 0) (uses 52 0 0) ∷ idle (agree 3 41 0) (uses 120 0 0)
+    (idle (agree 4 4608 0) (uses 0 0 0) ∷ idle (agree 2 41 0) (uses 54 0 0) ∷ idle (agree 3 41 0) (uses 122 0 0)
     -- "a measurement specification selected only in phase 3"
-    ∷ idle (agree 0 0 1) (uses 0 0 0) ∷ idle (agree 1 0 1) (uses 12 0 0) ∷ idle (agree 2 42 1) (uses 52 0 0)
-    ∷ idle (agree 3 42 2) (uses 120 0 0) ∷ [])
+    ∷ idle (agree 0 0 1) (uses 0 0 0) ∷ idle (agree 1 0 1) (uses 14 0 0) ∷ idle (agree 2 42 1) (uses 54 0 0)
+    ∷ idle (agree 3 42 2) (uses 122 0 0) ∷ [])
     -- and all of them met
     ++ (map (within second)
-    (fresh ∷ versioned ∷ idle (agree 2 42 0) (uses 52 0 0) ∷ idle (agree 3 42 0) (uses 0 0 0)
+    (fresh ∷ versioned ∷ idle (agree 2 42 0) (uses 54 0 0) ∷ idle (agree 3 42 0) (uses 0 0 0)
     ∷ idle (agree 3 42 1) (uses 512 8192 7680)
     -- not bounded: a peer's size before there is one, and the length of an answer that nobody awaits
-    ∷ idle (agree 0 7 0) (uses 0 0 0) ∷ idle (agree 1 7 0) (uses 12 0 0) ∷ waits (agree 3 42 0) (uses 0 0 0) 0 7 ∷ [])
+    ∷ idle (agree 0 7 0) (uses 0 0 0) ∷ idle (agree 1 7 0) (uses 14 0 0) ∷ waits (agree 3 42 0) (uses 0 0 0) 0 7 ∷ [])
     -- ".. and only if the image has a kind 3"
-    ++ (outside third (idle (agree 3 42 1) (uses 120 0 0)) ∷ within third (idle (agree 3 42 0) (uses 120 0 0)) ∷ []))))))
+    ++ (outside third (idle (agree 3 42 1) (uses 122 0 0)) ∷ within third (idle (agree 3 42 0) (uses 122 0 0)) ∷ []))))))
 
 -- "an awaited signature only in phase 3, with answer length 4+S to 4,608": S is 96, and 132 on the third image
 abbrev pub awaitedFlows : List Claim
@@ -146,16 +136,12 @@ awaitedFlows =
     ++ (within third (waits (agree 3 42 0) (uses 0 0 0) 1 136)
     ∷ unheard third challengePrefix (waits (agree 3 42 0) (uses 0 0 0) 1 135)
     ∷ map (unheard second challengePrefix)
-    (waits (agree 3 42 0) (uses 0 0 0) 1 99 ∷ waits (agree 3 42 0) (uses 0 0 0) 1 4609 ∷ waits (agree 2 42 0) (uses 52 0 0) 1 200
-    ∷ waits (agree 1 42 0) (uses 12 0 0) 1 200 ∷ waits (agree 0 42 0) (uses 0 0 0) 1 200 ∷ [])
+    (waits (agree 3 42 0) (uses 0 0 0) 1 99 ∷ waits (agree 3 42 0) (uses 0 0 0) 1 4609 ∷ waits (agree 2 42 0) (uses 54 0 0) 1 200
+    ∷ waits (agree 1 42 0) (uses 14 0 0) 1 200 ∷ waits (agree 0 42 0) (uses 0 0 0) 1 200 ∷ [])
     ++ (map (unheard second measurementsPrefix)
     (waits (agree 3 42 0) (uses 0 0 0) 2 99 ∷ waits (agree 3 42 0) (uses 0 0 0) 2 4609 ∷ [])
     -- there is no third kind of signature
     ++ (outside second (waits (agree 3 42 0) (uses 0 0 0) 3 100) ∷ [])))
-
--- a request of 4 bytes
-abbrev pub brief : ℕ → ℕ → List ℕ
-brief version code = version ∷ code ∷ 0 ∷ 0 ∷ []
 
 abbrev pub long : List ℕ
 long = replicate 4609 0xFF
@@ -166,7 +152,7 @@ unserved = 0x80 ∷ 0x85 ∷ 0xDF ∷ 0xE2 ∷ 0xE4 ∷ 0xFF ∷ []
 -- "A request, checked in this order": steps 1 to 7, most of them with a fault of a later step too
 abbrev pub stepFlows : List Claim
 stepFlows =
-    -- 1: "under 4 bytes"; 2: "over 4,608 bytes"; "Version is 0x10 in phases 0 and 1, else 0x12"
+    -- 1: "under 4 bytes"; 2: "over 4,608 bytes"; "Version is 0x10 in phases 0 and 1, else 0x12" under 1.2
     refusing second fresh ([] ∷ (0x12 ∷ 0xFF ∷ 0 ∷ []) ∷ long ∷ []) (early 0x01 ∷ early 0x01 ∷ early 0x0E ∷ [])
     ∷ refusing second versioned ((0x12 ∷ 0xFF ∷ 0 ∷ []) ∷ []) (early 0x01 ∷ [])
     ∷ refusing second capable ((0x12 ∷ 0xFF ∷ 0 ∷ []) ∷ []) (refused 0x01 0 ∷ [])
@@ -178,8 +164,8 @@ stepFlows =
     measurementsPrefix (replicate 9 0 ∷ []) counting
     -- 4: "code not served, or 0xE0 with no kind 3"
     ∷ refusing second fresh (map (brief 0x11) unserved) (map (λ (code : ℕ). 0x10 ∷ 0x7F ∷ 0x07 ∷ code ∷ []) unserved)
-    ∷ refusing third (negotiated 0 120) (brief 0x11 0xE0 ∷ countMeasurements ∷ []) (replicate 2 (refused 0x07 0xE0))
-    -- 5: "version byte not 0x10 for GET_VERSION, not 0x12 for others"
+    ∷ refusing third (negotiated 0 122) (brief 0x11 0xE0 ∷ countMeasurements ∷ []) (replicate 2 (refused 0x07 0xE0))
+    -- 5: "version byte not 0x10 for GET_VERSION", nor an edition's for others
     ∷ refusing second fresh (brief 0x12 0x84 ∷ map (brief 0x10) (0xE1 ∷ 0xE3 ∷ 0x81 ∷ 0x82 ∷ 0x83 ∷ 0xE0 ∷ []))
     (replicate 7 (early 0x41))
     -- 6: "GET_CAPABILITIES only in 1, to 2; NEGOTIATE_ALGORITHMS only in 2, to 3; the rest only in 3, and GET_MEASUREMENTS only if its
@@ -187,11 +173,11 @@ stepFlows =
     ∷ refusing second fresh (map (brief 0x12) (0xE1 ∷ 0xE3 ∷ 0x81 ∷ 0x82 ∷ 0x83 ∷ 0xE0 ∷ [])) (replicate 6 (early 0x04))
     ∷ refusing second versioned (map (brief 0x12) (0xE3 ∷ 0x81 ∷ 0x82 ∷ 0x83 ∷ 0xE0 ∷ [])) (replicate 5 (early 0x04))
     ∷ refusing second capable (map (brief 0x12) (0xE1 ∷ 0x81 ∷ 0x82 ∷ 0x83 ∷ 0xE0 ∷ [])) (replicate 5 (refused 0x04 0))
-    ∷ refusing second (negotiated 0 120) (map (brief 0x12) (0xE1 ∷ 0xE3 ∷ 0xE0 ∷ [])) (replicate 3 (refused 0x04 0))
+    ∷ refusing second (negotiated 0 122) (map (brief 0x12) (0xE1 ∷ 0xE3 ∷ 0xE0 ∷ [])) (replicate 3 (refused 0x04 0))
     -- .. and M stays
-    ∷ refusing second (idle (agree 3 4608 0) (uses 120 0 9)) (countMeasurements ∷ []) (refused 0x04 0 ∷ [])
+    ∷ refusing second (idle (agree 3 4608 0) (uses 122 0 9)) (countMeasurements ∷ []) (refused 0x04 0 ∷ [])
     -- 7; of the two signed ones 8 would refuse the answer too
-    ∷ refusing second (idle (agree 3 42 1) (uses 120 0 0)) (getCertificate 1 0 9 ∷ challenge 1 0 ∷ getMeasurements 1 0 1 ∷ [])
+    ∷ refusing second (idle (agree 3 42 1) (uses 122 0 0)) (getCertificate 1 0 9 ∷ challenge 1 0 ∷ getMeasurements 1 0 1 ∷ [])
     (replicate 3 invalid)
     ∷ []
 
@@ -199,17 +185,17 @@ stepFlows =
 abbrev pub roomFlows : List Claim
 roomFlows =
     -- a byte too few for the answer; the first time B has no room either
-    refusing second (idle (agree 3 147 1) (uses 120 8192 0)) (getDigests ∷ []) (tooLarge 148 ∷ [])
-    ∷ refusing second (idle (agree 3 181 1) (uses 120 0 0)) (challenge 2 0 ∷ []) (tooLarge 182 ∷ [])
-    ∷ refusing second (idle (agree 3 229 1) (uses 120 0 0)) (challenge 2 1 ∷ []) (tooLarge 230 ∷ [])
-    ∷ refusing second (idle (agree 3 412 1) (uses 120 0 0)) (getMeasurements 1 0xFF 2 ∷ []) (tooLarge 413 ∷ [])
-    ∷ refusing second (idle (agree 3 96 1) (uses 120 0 0)) (getUnsigned 17 ∷ []) (tooLarge 97 ∷ [])
+    refusing second (idle (agree 3 147 1) (uses 122 8192 0)) (getDigests ∷ []) (tooLarge 148 ∷ [])
+    ∷ refusing second (idle (agree 3 181 1) (uses 122 0 0)) (challenge 2 0 ∷ []) (tooLarge 182 ∷ [])
+    ∷ refusing second (idle (agree 3 229 1) (uses 122 0 0)) (challenge 2 1 ∷ []) (tooLarge 230 ∷ [])
+    ∷ refusing second (idle (agree 3 412 1) (uses 122 0 0)) (getMeasurements 1 0xFF 2 ∷ []) (tooLarge 413 ∷ [])
+    ∷ refusing second (idle (agree 3 96 1) (uses 122 0 0)) (getUnsigned 17 ∷ []) (tooLarge 97 ∷ [])
     -- just room enough: the answer has the peer's size, or its last byte is the last of B or M
-    ∷ answering second (idle (agree 3 148 1) (uses 120 8040 0)) (getDigests ∷ []) (digests ∷ [])
-    (idle (agree 3 148 1) (uses 120 8192 0))
-    ∷ answering second (idle (agree 3 4608 1) (uses 120 8125 0)) (getCertificate 3 2 0xFFFF ∷ [])
+    ∷ answering second (idle (agree 3 148 1) (uses 122 8040 0)) (getDigests ∷ []) (digests ∷ [])
+    (idle (agree 3 148 1) (uses 122 8192 0))
+    ∷ answering second (idle (agree 3 4608 1) (uses 122 8125 0)) (getCertificate 3 2 0xFFFF ∷ [])
     (certificate 3 0 (bytes 102 51) ∷ [])
-    (idle (agree 3 4608 1) (uses 120 8192 0))
+    (idle (agree 3 4608 1) (uses 122 8192 0))
     ∷ signing (idle (agree 3 182 1) (uses 0 8070 0)) (asks second (challenge 2 0) ∷ []) (saying (unsigned 96 (challenged2 [])) ∷ [])
     challengePrefix (replicate 8070 0 ∷ challenge 2 0 ∷ challenged2 [] ∷ []) (waits (agree 3 182 1) (uses 0 8192 0) 1 182)
     ∷ signing (idle (agree 3 413 1) (uses 0 0 7326)) (asks second (getMeasurements 1 0xFF 2) ∷ [])
@@ -217,11 +203,11 @@ roomFlows =
     measurementsPrefix (replicate 7326 0 ∷ getMeasurements 1 0xFF 2 ∷ measurements 0 2 5 allBlocks ∷ [])
     (waits (agree 3 413 1) (uses 0 0 7680) 2 413)
     -- a byte more in B or M; paper 02, 3: M is emptied then
-    ∷ refusing second (idle (agree 3 4608 1) (uses 120 8041 0)) (getDigests ∷ []) (refused 0x05 0 ∷ [])
-    ∷ refusing second (idle (agree 3 4608 1) (uses 120 8126 0)) (getCertificate 3 2 0xFFFF ∷ []) (refused 0x05 0 ∷ [])
-    ∷ refusing second (idle (agree 3 4608 1) (uses 120 8071 0)) (challenge 2 0 ∷ []) (refused 0x05 0 ∷ [])
-    ∷ answering second (idle (agree 3 4608 1) (uses 120 7 7327)) (getMeasurements 1 0xFF 2 ∷ []) (refused 0x05 0 ∷ [])
-    (idle (agree 3 4608 1) (uses 120 7 0))
+    ∷ refusing second (idle (agree 3 4608 1) (uses 122 8041 0)) (getDigests ∷ []) (refused 0x05 0 ∷ [])
+    ∷ refusing second (idle (agree 3 4608 1) (uses 122 8126 0)) (getCertificate 3 2 0xFFFF ∷ []) (refused 0x05 0 ∷ [])
+    ∷ refusing second (idle (agree 3 4608 1) (uses 122 8071 0)) (challenge 2 0 ∷ []) (refused 0x05 0 ∷ [])
+    ∷ answering second (idle (agree 3 4608 1) (uses 122 7 7327)) (getMeasurements 1 0xFF 2 ∷ []) (refused 0x05 0 ∷ [])
+    (idle (agree 3 4608 1) (uses 122 7 0))
     ∷ []
 
 -- The table itself: what is decided of a request, on the second image, with the step's number.
@@ -238,22 +224,27 @@ abbrev pub rows : List Row
 rows =
     row ready [] (Refused 1 0x01 0 0)
     ∷ row ready long (Refused 2 0x0E 0 0)
+    ∷ row ready11 long (Refused 2 0x01 0 0)
     ∷ row counting getDigests (Refused 3 0x03 0 0)
     ∷ row ready (brief 0x12 0xFF) (Refused 4 0x07 0xFF 0)
     ∷ row ready (brief 0x11 0x81) (Refused 5 0x41 0 0)
     ∷ row ready (brief 0x12 0xE1) (Refused 6 0x04 0 0)
     ∷ row ready (challenge 1 0) (Refused 7 0x01 0 0)
-    ∷ row (idle (agree 3 42 1) (uses 120 0 0)) getDigests (Refused 8 0x0D 0 148)
-    ∷ row (idle (agree 3 4608 1) (uses 120 8192 0)) getDigests (Refused 9 0x05 0 0)
+    ∷ row (idle (agree 3 42 1) (uses 122 0 0)) getDigests (Refused 8 0x0D 0 148)
+    ∷ row (idle (agree 3 4608 1) (uses 122 8192 0)) getDigests (Refused 9 0x05 0 0)
     ∷ []
 
 pub table : map (λ (x : Row). requestDecision (factsOf second) (x .state) (x .request)) rows ≡ map (λ (x : Row). x .decision) rows
-unfolding pick digestSize signatureSize chainFor kindOf mustWait serves versionFor inPhase kindSteps askedSteps firstSteps sizeSteps
+unfolding pick digestSize signatureSize chainFor versionOf kindOf mustWait serves carries versionFits inPhase kindSteps askedSteps firstSteps
+    sizeSteps
     digestsDecision challengeDecision lastSteps requestDecision
 table = refl
 
 abbrev pub all : List Claim
-all = imageFlows ++ (numberFlows ++ (boundFlows ++ (awaitedFlows ++ (stepFlows ++ roomFlows))))
+all = imageFlows ++ (numberFlows ++ (boundFlows ++ (awaitedFlows ++ (stepFlows ++ (roomFlows ++ editionFlows)))))
+
+abbrev pub hashedBy : Plain → List ℕ
+hashedBy p = toHash (p .negotiated) (p .whose) (p .parts)
 
 -- what the plain box gives in place of what is expected
 abbrev pub computed : Claim → Claim
@@ -261,16 +252,16 @@ computed f = record {
   from = f .from;
   calls = f .calls;
   said = saidFrom (boxIn (f .from)) (f .calls);
-  prefix = prefixOf (after (boxIn (f .from)) (f .calls) .whose);
-  hashed = toHash (after (boxIn (f .from)) (f .calls) .whose) (after (boxIn (f .from)) (f .calls) .parts);
+  prefix = prefixOf (after (boxIn (f .from)) (f .calls) .negotiated) (after (boxIn (f .from)) (f .calls) .whose);
+  hashed = hashedBy (after (boxIn (f .from)) (f .calls));
   to = stateOf (after (boxIn (f .from)) (f .calls));
 }
 
 pub settled : map computed all ≡ all
 unfolding pick unless framesOf identityFault slotWrong chainFault measurementFault summaryFault recordFault endFault extended readOn readAll
     reading digestSize signatureSize recordBytes recordsBytes identityBytes imageBytes chainFor maskOf measurementFor holdsOnly
-    phaseFits selectionFits awaitedFits ownBounds selectionHeld awaitedLong inBounds versionOf refusedBytes kindOf mustWait serves
-    versionFor inPhase kindSteps askedSteps firstSteps sizeSteps versionBytes
+    phaseFits selectionFits awaitedFits editionFits ownBounds selectionHeld awaitedLong inBounds versionOf refusedBytes kindOf mustWait
+    serves carries versionFits sizesFit inPhase kindSteps askedSteps firstSteps sizeSteps versionBytes
     capabilitiesDecision capabilitiesBytes structuresFit algorithmsDecision algorithmsBytes digestsDecision joinedDigests digestsBytes
     portionOf portionDecision certificateDecision certificateBytes summaryFits challengeDecision challengeBytes signerFits
     operationFits operationStep measurementsBy measurementsDecision blockBytes blocksOf measurementsBytes messageBytes lastSteps

@@ -8,11 +8,12 @@ use lib.ListN.{getD}
 use lib.Dec.{ltb, eqb}
 use borrow.Author.Tests.{ltb-true, ltb-false, leb-true, eqb-true, eqb-false, ne-eqb}
 use Rattle.wire.specs.Pick.{pick}
-use Rattle.wire.proofs.Picks.{when-false, not-first, not-second}
-use Rattle.rules.specs.Limits.{messageLimit, aLimit, bLimit, mLimit, peerLeast, versionPhase, capabilitiesPhase, algorithmsPhase, versionUsed, capabilitiesUsed, headerLength, awaitsNothing, awaitsMeasurements}
+use Rattle.wire.proofs.Picks.{pick-case, when-false, not-first, not-second}
+use Rattle.rules.specs.Limits.{messageLimit, peerLeast, freshPhase, versionPhase, capabilitiesPhase, algorithmsPhase, versionUsed, capabilitiesUsed12, headerLength, awaitsNothing, awaitsMeasurements}
 use Rattle.rules.specs.Facts.{Facts, sigSize}
 use Rattle.rules.specs.Parts.{limitOf, countOf}
-use Rattle.rules.specs.State.{allOf, holdsOnly, phaseFits, selectionFits, awaitedFits, ownTests, ownBounds, selectionHeld, awaitedLong, inBounds}
+use Rattle.rules.specs.Header.{versionOf}
+use Rattle.rules.specs.State.{allOf, holdsOnly, capabilitiesUsed, phaseFits, awaitedFits, ownTests, ownBounds, selectionHeld, awaitedLong, inBounds}
 use Rattle.rules.specs.declared.Part.{Part}
 use Rattle.rules.specs.declared.Part.the-variants.{A, B, M}
 use Rattle.rules.specs.declared.Used.{Used}
@@ -56,15 +57,22 @@ module _ (s : State) (h : ownBounds s ≡ true) where
   unfolding phaseFits pick
   used-in-1 p = eqb-true _ _ (holds-at (s .used) versionUsed 0 (rw p at (passed 4)))
 
-  in-2 : s .negotiated .phase ≡ capabilitiesPhase → (ltb (s .negotiated .peer) peerLeast ≡ false) × (holdsOnly (s .used) capabilitiesUsed ≡ true)
+  in-2 : s .negotiated .phase ≡ capabilitiesPhase → (ltb (s .negotiated .peer) peerLeast ≡ false) × (holdsOnly (s .used) (capabilitiesUsed (versionOf (s .negotiated))) ≡ true)
   unfolding phaseFits pick
-  in-2 p = not-first (ltb (s .negotiated .peer) peerLeast) _ _ _ (rw p at (passed 4)) false-true
+  in-2 p =
+      let a : eqb (s .negotiated .phase) freshPhase ≡ false = rw p in
+      let b : eqb (s .negotiated .phase) versionPhase ≡ false = rw p in
+      let c : eqb (s .negotiated .phase) capabilitiesPhase ≡ true = rw p in
+      not-first (ltb (s .negotiated .peer) peerLeast) _ _ _ (rw (a, b, c) at (passed 4)) false-true
 
-  pub used-in-2 : s .negotiated .phase ≡ capabilitiesPhase → s .used .a ≡ capabilitiesUsed
-  used-in-2 p = eqb-true _ _ (holds-at (s .used) capabilitiesUsed 0 (in-2 p .1))
+  -- the longer of the two editions' A
+  pub used-in-2 : s .negotiated .phase ≡ capabilitiesPhase → s .used .a ≤ capabilitiesUsed12
+  used-in-2 p =
+      let e : s .used .a ≡ capabilitiesUsed (versionOf (s .negotiated)) = eqb-true _ _ (holds-at (s .used) _ 0 (in-2 p .1)) in
+      rw e (pick-case (λ (n : ℕ). n ≤ capabilitiesUsed12) _ _ _ (λ _. omega arith) (λ _. omega arith))
 
   pub empty-in-2 : s .negotiated .phase ≡ capabilitiesPhase → s .used .b ≡ 0
-  empty-in-2 p = eqb-true _ _ (holds-at (s .used) capabilitiesUsed 1 (in-2 p .1))
+  empty-in-2 p = eqb-true _ _ (holds-at (s .used) _ 1 (in-2 p .1))
 
   pub peer-in-2 : s .negotiated .phase ≡ capabilitiesPhase → peerLeast ≤ s .negotiated .peer
   peer-in-2 p = ltb-false _ _ (in-2 p .0)

@@ -1,28 +1,29 @@
 -- What an accepted request tells, alike for every message: its exchange is the message's own, the request is long enough and its part has
 -- room; and what its fields are. It holds of every branch of its kind's tests, so of what they choose. Assumes nothing.
-use mathlib.Core.Path.{_≡_, refl, sym, subst, _∙_}
+use mathlib.Core.Path.{_≡_, refl, ap, sym, subst}
 use mathlib.Core.Bool.{Bool, true, false}
 use mathlib.Core.List.{List}
 use Prim.Native.Nat.{ℕ, _+_, _-_, _%_, _≤_, _<_}
 use native.Mathlib.Omega.{arith}
 use lib.ListN.{length, getD}
 use lib.Dec.{ltb, leb, eqb}
-use borrow.Author.Tests.{ltb-true, ltb-false, leb-false, eqb-true, eqb-false}
+use borrow.Author.Tests.{ltb-false, leb-false, eqb-true, eqb-false}
 use Rattle.wire.specs.Bytes.{leAt}
 use Rattle.wire.specs.Pick.{pick}
-use Rattle.wire.proofs.Picks.{pick-case, not-first, not-second, when-false}
-use Rattle.rules.specs.Limits.{messageLimit, transcriptLength, peerLeast, algorithmsPhase, headerLength, capabilitiesLayout, algorithmsLeast, algorithmsMost, certificateLayout, challengeLayout, typeLeast, portionLimit, certificateHead, awaitsNothing}
+use Rattle.wire.proofs.Picks.{pick-case, not-first, when-false}
+use Rattle.rules.specs.Limits.{messageLimit, transcriptLength, peerLeast, peer11, algorithmsPhase, headerLength, version11, version12, capabilitiesLayout11, capabilitiesLayout12, algorithmsLeast, algorithmsMost, certificateLayout, challengeLayout, typeLeast, portionLimit, awaitsNothing}
 use Rattle.rules.specs.Facts.{Facts, sigSize}
 use Rattle.rules.specs.Parts.{limitOf, countOf, keptBy, countKept}
-use Rattle.rules.specs.State.{inBounds, ownBounds}
-use Rattle.rules.specs.Header.{codeByte, param1, param2}
-use Rattle.rules.specs.Steps.{kindOf, serves, inPhase, addedLength, wholeLength, sizeSteps}
-use Rattle.rules.specs.Capabilities.{transferSize, messageSize, capabilitiesDecision}
+use Rattle.rules.specs.State.{inBounds}
+use Rattle.rules.specs.Header.{versionByte, param1, param2, byEdition, versionOf}
+use Rattle.rules.specs.Steps.{inPhase, addedLength, wholeLength, sizeSteps}
+use Rattle.rules.specs.Capabilities.{transferSize, messageSize, capabilitiesLayout, peerAsked, sizesFit, capabilitiesNext, capabilitiesDecision}
 use Rattle.rules.specs.Algorithms.{bitSet, lengthField, structuresStart, structuresFit, selectionFor, algorithmsDecision}
 use Rattle.rules.specs.Digests.{digestsExchange, digestsDecision}
 use Rattle.rules.specs.Certificate.{slotAsked, offsetAsked, lengthAsked, portionOf, certificateExchange, portionDecision, certificateDecision}
 use Rattle.rules.specs.Challenge.{summaryFits, challengeExchange, challengeDecision}
 use Rattle.rules.specs.Measurements.{layoutOf, signerOf, signerFits, operationOf, operationFits, measurementsExchange, operationStep, measurementsBy, measurementsDecision}
+use Rattle.rules.specs.Exchanges.{complete}
 use Rattle.rules.specs.Messages.{kindFor, requestLayout, exchangeFor}
 use Rattle.rules.specs.Decisions.{lastSteps, decisionOf}
 use Rattle.rules.specs.Signing.{finishOf}
@@ -31,7 +32,6 @@ use Rattle.rules.specs.declared.State.{State}
 use Rattle.rules.specs.declared.Lengths.{Lengths}
 use Rattle.rules.specs.declared.Kind.{Kind}
 use Rattle.rules.specs.declared.Kind.the-variants as kind
-use Rattle.rules.specs.declared.Asked.the-variants.{Served}
 use Rattle.rules.specs.declared.Operation.{Operation}
 use Rattle.rules.specs.declared.Signer.{Signer}
 use Rattle.rules.specs.declared.Signer.the-variants as signer
@@ -43,7 +43,7 @@ use Rattle.rules.specs.declared.Decision.the-variants as decision
 use Rattle.rules.specs.declared.Finish.{Finish}
 use Rattle.rules.specs.declared.Finish.the-variants as finish
 use Rattle.rules.proofs.Tests.{own, used-in-1, used-in-2, peer-in-3, measured, false-true, not-zero, SignatureAwaited, awaited-told}
-use Rattle.rules.proofs.Passed.{Called, Passed, IsAccepted, accepted-unnumbered, called, passed}
+use Rattle.rules.proofs.Passed.{Called, Passed, called, passed}
 
 -- the messages' own fields
 
@@ -85,7 +85,7 @@ pub record Fitting (s : State) (r : List ℕ) (m : Message) (x : Exchange) : Typ
   pub room : countKept (x .part) (keptBy (kindFor m)) (s .used) + addedLength x ≤ limitOf (x .part)
 
 pub record Told (f : Facts) (s : State) (r : List ℕ) (m : Message) (n : Negotiated) (x : Exchange) : Type 0 where
-  pub exchange : x ≡ exchangeFor f r m
+  pub exchange : x ≡ exchangeFor f n r m
   pub layout : x .layout ≡ requestLayout (kindFor m) r
   pub fitting : Fitting s r m x
   pub fields : Fields f n m
@@ -109,6 +109,29 @@ portion-few asked left peer = omega arith
 selection-few : (f : Facts) (r : List ℕ) → selectionFor f r ≤ 1
 selection-few f r = pick-case (λ (n : ℕ). n ≤ 1) (eqb (f .measurements) 0) 0 (getD r 6 0 % 2) (λ _. omega arith) (λ _. omega arith)
 
+-- the edition that GET_CAPABILITIES chooses is the one that its answer carries
+chosen : {A : Type 0} (r : List ℕ) (x y : A) → byEdition (versionByte r) x y ≡ byEdition (versionOf (capabilitiesNext r)) x y
+unfolding versionOf pick
+chosen {A} r x y = by (eqb (versionByte r) version11)
+  where
+    by : (b : Bool) → pick b x y ≡ byEdition (pick b version11 version12) x y
+    by true = refl
+    by false = refl
+
+-- a layout has at most 20 bytes
+pub layout-few : (version : ℕ) → capabilitiesLayout version ≤ capabilitiesLayout12
+layout-few version = pick-case (λ (n : ℕ). n ≤ capabilitiesLayout12) _ _ _ (λ _. omega arith) (λ _. omega arith)
+
+-- its peer's size is one that may be
+peer-fits : (r : List ℕ) → sizesFit r ≡ true → peerLeast ≤ peerAsked r
+unfolding sizesFit pick
+peer-fits r h = by (eqb (versionByte r) version11) h
+  where
+    by : (b : Bool) → pick b true (pick (ltb (transferSize r) peerLeast) false (leb (transferSize r) (messageSize r))) ≡ true
+        → peerLeast ≤ pick b peer11 (transferSize r)
+    by true h = omega arith
+    by false h = ltb-false _ _ (not-first _ _ _ _ h false-true .0)
+
 module _ (f : Facts) (s : State) (r : List ℕ) (z : inBounds f s ≡ true) where
   -- where it is accepted: the kind's own message, and what is told of it
   abbrev P : Kind → Decision → Type 0
@@ -128,19 +151,19 @@ module _ (f : Facts) (s : State) (r : List ℕ) (z : inBounds f s ≡ true) wher
   capabilities : inPhase (s .negotiated) kind.Capabilities ≡ true → P kind.Capabilities (capabilitiesDecision r)
   unfolding capabilitiesDecision inPhase pick
   capabilities p =
-      pick-case (P kind.Capabilities) (ltb (length r) capabilitiesLayout) _ _ (λ _. tt)
-      (λ a. pick-case (P kind.Capabilities) (ltb (transferSize r) peerLeast) _ _ (λ _. tt)
-      (λ b. pick-case (P kind.Capabilities) (ltb (messageSize r) (transferSize r)) _ _ (λ _. tt)
-      (λ _. (
+      pick-case (P kind.Capabilities) (ltb (length r) (capabilitiesLayout (versionByte r))) _ _ (λ _. tt)
+      (λ a. pick-case (P kind.Capabilities) (sizesFit r) _ _
+      (λ b. (
         refl,
         record {
-          exchange = refl;
+          exchange = ap (λ (n : ℕ). complete kind.Capabilities n n) (chosen r capabilitiesLayout11 capabilitiesLayout12);
           layout = refl;
-          fitting = record { long = ltb-false _ _ a; room = omega (arith, used-in-1 s (own f s z) (eqb-true _ _ p)) };
-          fields = ltb-false _ _ b;
+          fitting = record { long = ltb-false _ _ a; room = omega (arith, used-in-1 s (own f s z) (eqb-true _ _ p), layout-few (versionByte r)) };
+          fields = peer-fits r b;
           asked = tt;
         },
-      ))))
+      ))
+      (λ _. tt))
 
   algorithms : inPhase (s .negotiated) kind.Algorithms ≡ true → P kind.Algorithms (algorithmsDecision f (s .negotiated) r)
   unfolding algorithmsDecision inPhase pick

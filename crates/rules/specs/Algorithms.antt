@@ -49,7 +49,7 @@ selectionFor f r = pick (eqb (f .measurements) 0) 0 (getD r 6 0 % 2)
 
 -- "NEGOTIATE_ALGORITHMS only in 2, to 3"
 abbrev pub algorithmsNext : Facts → Negotiated → List ℕ → Negotiated
-algorithmsNext f n r = record { phase = algorithmsPhase; peer = n .peer; selection = selectionFor f r }
+algorithmsNext f n r = record { phase = algorithmsPhase; peer = n .peer; selection = selectionFor f r; edition = n .edition }
 
 abbrev pub algorithmsExchange : List ℕ → Exchange
 algorithmsExchange r = complete kind.Algorithms (lengthField r) algorithmsLength

@@ -10,7 +10,7 @@ use Rattle.rules.specs.Limits.{awaitsChallenge, awaitsMeasurements}
 use Rattle.rules.specs.Parts.{startOf, countOf, Kept, keptByFinishing, countKept, keptUsed, Entry, into, nowhere, usedAfter, Parts}
 use Rattle.rules.specs.State.{awaiting, noneAwaited}
 use Rattle.rules.specs.Effects.{Change, added, Effect, host, refuse, accept, replyOf, bytesOf}
-use Rattle.rules.specs.Signing.{finishReply, failedBytes}
+use Rattle.rules.specs.Signing.{beforeM, finishReply, failedBytes}
 use Rattle.rules.specs.declared.Part.{Part}
 use Rattle.rules.specs.declared.Part.the-variants.{A, B, M}
 use Rattle.rules.specs.declared.Used.{Used}
@@ -39,7 +39,7 @@ partsIn u t = record { a = partIn A u t; b = partIn B u t; m = partIn M u t }
 unfoldable pub signedFirst : State → List ℕ → List ℕ
 signedFirst s t =
     pick (eqb (s .awaited .whose) awaitsChallenge) (partIn A (s .used) t)
-    (pick (eqb (s .awaited .whose) awaitsMeasurements) (partIn A (s .used) t) [])
+    (pick (eqb (s .awaited .whose) awaitsMeasurements) (beforeM (s .negotiated) [] (partIn A (s .used) t)) [])
 
 unfoldable pub signedSecond : State → List ℕ → List ℕ
 signedSecond s t =
@@ -100,7 +100,7 @@ finishedState (finish.Number k) s = s
 finishedState finish.Signed s = emptiedState s
 finishedState finish.Failed s = emptiedState s
 
--- "Finishing writes the S bytes at the end of the answer, or, if the chip failed, only 12 7F 05 00 at its start .."
+-- "Finishing writes the S bytes at the end of the answer, or, if the chip failed, only 12 7F 05 00", 11 7F 05 00 under 1.1, "at its start .."
 abbrev pub finishedAnswer : Finish → State → List ℕ → List ℕ → List ℕ
 finishedAnswer (finish.Number k) s answer signature = answer
 finishedAnswer finish.Signed s answer signature = splice answer (s .awaited .length - length signature) signature

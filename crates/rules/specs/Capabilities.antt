@@ -1,15 +1,16 @@
 -- GET_CAPABILITIES and CAPABILITIES.
+use mathlib.Core.Bool.{Bool, true, false}
 use mathlib.Core.List.{List, [], _∷_, _++_}
 use Prim.Native.Nat.{ℕ}
 use lib.ListN.{length}
-use lib.Dec.{ltb, eqb}
+use lib.Dec.{ltb, leb, eqb}
 use Rattle.wire.specs.Bytes.{leAt, leBytes}
 use Rattle.wire.specs.Pick.{pick}
 use Rattle.image.specs.Contents.{Contents}
-use Rattle.rules.specs.Limits.{messageLimit, capabilitiesPhase, capabilitiesLayout, peerLeast, capabilitiesCode, plainFlags}
-use Rattle.rules.specs.Limits.{measuringFlags}
+use Rattle.rules.specs.Limits.{messageLimit, capabilitiesPhase, capabilitiesLayout11, capabilitiesLayout12, peerLeast, peer11}
+use Rattle.rules.specs.Limits.{capabilitiesCode, plainFlags, measuringFlags}
 use Rattle.rules.specs.State.{agreedAt}
-use Rattle.rules.specs.Header.{header}
+use Rattle.rules.specs.Header.{versionByte, byEdition, versionOf, header}
 use Rattle.rules.specs.Steps.{invalid}
 use Rattle.rules.specs.Exchanges.{complete}
 use Rattle.rules.specs.declared.Negotiated.{Negotiated}
@@ -26,28 +27,42 @@ transferSize r = leAt 4 r 12
 abbrev pub messageSize : List ℕ → ℕ
 messageSize r = leAt 4 r 16
 
--- "GET_CAPABILITIES only in 1, to 2"
+-- "GET_CAPABILITIES, 20 bytes"; paper 02, 4: "For 1.1 its layout has 12 bytes with no sizes"
+abbrev pub capabilitiesLayout : ℕ → ℕ
+capabilitiesLayout version = byEdition version capabilitiesLayout11 capabilitiesLayout12
+
+-- "DataTransferSize (the peer's size)"; under 1.1 "the peer's size counts as 4,608"
+abbrev pub peerAsked : List ℕ → ℕ
+peerAsked r = byEdition (versionByte r) peer11 (transferSize r)
+
+-- "DataTransferSize (the peer's size) at least 42, MaxSPDMmsgSize no less"; under 1.1 there are no sizes
+unfoldable pub sizesFit : List ℕ → Bool
+sizesFit r = byEdition (versionByte r) true (pick (ltb (transferSize r) peerLeast) false (leb (transferSize r) (messageSize r)))
+
+-- "GET_CAPABILITIES only in 1, to 2"; paper 02, 4: "GET_CAPABILITIES picks by its version byte"
 abbrev pub capabilitiesNext : List ℕ → Negotiated
-capabilitiesNext r = agreedAt capabilitiesPhase (transferSize r)
+capabilitiesNext r = agreedAt capabilitiesPhase (versionByte r) (peerAsked r)
 
-abbrev pub capabilitiesExchange : Exchange
-capabilitiesExchange = complete kind.Capabilities capabilitiesLayout capabilitiesLayout
+abbrev pub capabilitiesExchange : ℕ → Exchange
+capabilitiesExchange version = complete kind.Capabilities (capabilitiesLayout version) (capabilitiesLayout version)
 
--- "GET_CAPABILITIES, 20 bytes .. DataTransferSize (the peer's size) at least 42, MaxSPDMmsgSize no less."
 unfoldable pub capabilitiesDecision : List ℕ → Decision
 capabilitiesDecision r =
-    pick (ltb (length r) capabilitiesLayout) invalid
-    (pick (ltb (transferSize r) peerLeast) invalid
-    (pick (ltb (messageSize r) (transferSize r)) invalid
-    (Accepted message.Capabilities (capabilitiesNext r) capabilitiesExchange)))
+    pick (ltb (length r) (capabilitiesLayout (versionByte r))) invalid
+    (pick (sizesFit r)
+    (Accepted message.Capabilities (capabilitiesNext r) (capabilitiesExchange (versionByte r)))
+    invalid)
 
 -- "flags at 8 = 0x06, or 0x16 with measurements"
 abbrev pub flagsOf : ℕ → ℕ
 flagsOf measurements = pick (eqb measurements 0) plainFlags measuringFlags
 
--- "CAPABILITIES 0x61, same layout: CTExponent at 5, flags at 8 ..; both sizes 4,608"
-unfoldable pub capabilitiesBytes : Contents → Negotiated → List ℕ
-capabilitiesBytes c n =
+-- "CAPABILITIES 0x61, same layout: CTExponent at 5, flags at 8"
+abbrev pub capabilitiesHead : Contents → Negotiated → List ℕ
+capabilitiesHead c n =
     header n capabilitiesCode 0 0
-    ++ ((0 ∷ c .identity .exponent ∷ 0 ∷ 0 ∷ flagsOf (length (c .measurements)) ∷ 0 ∷ 0 ∷ 0 ∷ [])
-    ++ (leBytes 4 messageLimit ++ leBytes 4 messageLimit))
+    ++ (0 ∷ c .identity .exponent ∷ 0 ∷ 0 ∷ flagsOf (length (c .measurements)) ∷ 0 ∷ 0 ∷ 0 ∷ [])
+
+-- ".. both sizes 4,608", which 1.1 does not have
+unfoldable pub capabilitiesBytes : Contents → Negotiated → List ℕ
+capabilitiesBytes c n = capabilitiesHead c n ++ byEdition (versionOf n) [] (leBytes 4 messageLimit ++ leBytes 4 messageLimit)

@@ -1,8 +1,8 @@
 pub mod Limits
 pub mod Facts
 pub mod Parts
-pub mod State
 pub mod Header
+pub mod State
 pub mod Steps
 pub mod Exchanges
 pub mod Version
@@ -15,6 +15,8 @@ pub mod Measurements
 pub mod Messages
 pub mod Decisions
 pub mod Effects
+pub mod Refusals
+pub mod Editions
 pub mod Signing
 pub mod Plain
 pub mod Box

@@ -35,6 +35,10 @@ nonceLength = 32
 abbrev pub peerLeast : ℕ
 peerLeast = 42
 
+-- paper 02, 4: "with no sizes, so the peer's size counts as 4,608"
+abbrev pub peer11 : ℕ
+peer11 = 4608
+
 -- "phase 0–3": the fresh one, and those that an accepted request of the first three kinds leads to; all others leave the last
 abbrev pub freshPhase : ℕ
 freshPhase = 0
@@ -48,12 +52,15 @@ capabilitiesPhase = 2
 abbrev pub algorithmsPhase : ℕ
 algorithmsPhase = 3
 
--- "in phases 0, 1, 2 A holds exactly 0, 12, 52"
+-- paper 02, 4: "A holds 14 in phase 1, then 38 (1.1) or 54 (1.2) in phase 2"
 abbrev pub versionUsed : ℕ
-versionUsed = 12
+versionUsed = 14
 
-abbrev pub capabilitiesUsed : ℕ
-capabilitiesUsed = 52
+abbrev pub capabilitiesUsed11 : ℕ
+capabilitiesUsed11 = 38
+
+abbrev pub capabilitiesUsed12 : ℕ
+capabilitiesUsed12 = 54
 
 -- the least request: version, code and two parameters
 abbrev pub headerLength : ℕ
@@ -61,16 +68,25 @@ headerLength = 4
 
 -- layouts: what must be there, and what enters the transcript; and the answers whose length is always the same
 
--- "VERSION 0x04: header, 0, count 1, entry 0x1200"
+-- "VERSION 0x04: header, 0, count .., entry .."; paper 02, 4: "VERSION lists 1.1 and 1.2, rising"
 abbrev pub versionLength : ℕ
-versionLength = 8
+versionLength = 10
 
-abbrev pub versionEntry : ℕ
-versionEntry = 0x1200
+abbrev pub versionCount : ℕ
+versionCount = 2
 
--- "GET_CAPABILITIES, 20 bytes .. CAPABILITIES 0x61, same layout"
-abbrev pub capabilitiesLayout : ℕ
-capabilitiesLayout = 20
+abbrev pub versionEntry11 : ℕ
+versionEntry11 = 0x1100
+
+abbrev pub versionEntry12 : ℕ
+versionEntry12 = 0x1200
+
+-- "GET_CAPABILITIES, 20 bytes .. CAPABILITIES 0x61, same layout"; paper 02, 4: "For 1.1 its layout has 12 bytes with no sizes"
+abbrev pub capabilitiesLayout11 : ℕ
+capabilitiesLayout11 = 12
+
+abbrev pub capabilitiesLayout12 : ℕ
+capabilitiesLayout12 = 20
 
 -- "ALGORITHMS 0x63, 36 bytes"
 abbrev pub algorithmsLength : ℕ
@@ -105,12 +121,19 @@ portionLimit = 1024
 abbrev pub certificateHead : ℕ
 certificateHead = 8
 
--- version bytes
+-- version bytes: GET_VERSION's and VERSION's, and those of the two editions
 abbrev pub version10 : ℕ
 version10 = 0x10
 
+abbrev pub version11 : ℕ
+version11 = 0x11
+
 abbrev pub version12 : ℕ
 version12 = 0x12
+
+-- the edition where none is chosen
+abbrev pub noEdition : ℕ
+noEdition = 0
 
 -- "Served requests: GET_VERSION 0x84, GET_CAPABILITIES 0xE1, NEGOTIATE_ALGORITHMS 0xE3, GET_DIGESTS 0x81, GET_CERTIFICATE 0x82, CHALLENGE
 -- 0x83, GET_MEASUREMENTS 0xE0"
@@ -193,7 +216,7 @@ busyStep = 3
 abbrev pub codeStep : ℕ
 codeStep = 4
 
--- "version byte not 0x10 for GET_VERSION, not 0x12 for others"
+-- "version byte not 0x10 for GET_VERSION, not .. for others"
 abbrev pub versionStep : ℕ
 versionStep = 5
 

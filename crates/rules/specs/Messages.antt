@@ -3,10 +3,11 @@
 use mathlib.Core.List.{List}
 use Prim.Native.Nat.{ℕ}
 use Rattle.image.specs.Contents.{Contents}
-use Rattle.rules.specs.Limits.{headerLength, capabilitiesLayout, certificateLayout, challengeLayout}
+use Rattle.rules.specs.Limits.{headerLength, certificateLayout, challengeLayout}
 use Rattle.rules.specs.Facts.{Facts}
+use Rattle.rules.specs.Header.{versionByte, versionOf}
 use Rattle.rules.specs.Version.{versionExchange, versionBytes}
-use Rattle.rules.specs.Capabilities.{capabilitiesExchange, capabilitiesBytes}
+use Rattle.rules.specs.Capabilities.{capabilitiesLayout, capabilitiesExchange, capabilitiesBytes}
 use Rattle.rules.specs.Algorithms.{lengthField, algorithmsExchange, algorithmsBytes}
 use Rattle.rules.specs.Digests.{digestsExchange, digestsBytes}
 use Rattle.rules.specs.Certificate.{certificateExchange, certificateBytes}
@@ -31,22 +32,22 @@ kindFor (message.Measurements operation signer) = kind.Measurements
 -- "Bytes after a request's layout are ignored and enter no transcript": the layout's length, read from the request
 abbrev pub requestLayout : Kind → List ℕ → ℕ
 requestLayout kind.Version r = headerLength
-requestLayout kind.Capabilities r = capabilitiesLayout
+requestLayout kind.Capabilities r = capabilitiesLayout (versionByte r)
 requestLayout kind.Algorithms r = lengthField r
 requestLayout kind.Digests r = headerLength
 requestLayout kind.Certificate r = certificateLayout
 requestLayout kind.Challenge r = challengeLayout
 requestLayout kind.Measurements r = layoutOf (signerOf r)
 
--- what an accepted request does beside its answer
-abbrev pub exchangeFor : Facts → List ℕ → Message → Exchange
-exchangeFor f r message.Version = versionExchange
-exchangeFor f r message.Capabilities = capabilitiesExchange
-exchangeFor f r message.Algorithms = algorithmsExchange r
-exchangeFor f r message.Digests = digestsExchange f
-exchangeFor f r (message.Certificate slot offset portion remainder) = certificateExchange portion
-exchangeFor f r (message.Challenge slot summary) = challengeExchange f summary
-exchangeFor f r (message.Measurements operation signer) = measurementsExchange f operation signer
+-- what an accepted request does beside its answer, by what is negotiated once that is sent
+abbrev pub exchangeFor : Facts → Negotiated → List ℕ → Message → Exchange
+exchangeFor f n r message.Version = versionExchange
+exchangeFor f n r message.Capabilities = capabilitiesExchange (versionOf n)
+exchangeFor f n r message.Algorithms = algorithmsExchange r
+exchangeFor f n r message.Digests = digestsExchange f
+exchangeFor f n r (message.Certificate slot offset portion remainder) = certificateExchange portion
+exchangeFor f n r (message.Challenge slot summary) = challengeExchange f summary
+exchangeFor f n r (message.Measurements operation signer) = measurementsExchange f operation signer
 
 -- the answer without its signature, by what is negotiated once it is sent
 unfoldable pub messageBytes : Contents → List ℕ → Negotiated → Message → List ℕ

@@ -1,4 +1,4 @@
--- "The plain box": it holds phase, peer's size, selection, A, B and M as lists of bytes, and the awaited answer.
+-- "The plain box": it holds phase, edition, peer's size, selection, A, B and M as lists of bytes, and the awaited answer.
 use mathlib.Core.Bool.{Bool}
 use mathlib.Core.List.{List, []}
 use Prim.Native.Nat.{ℕ}
@@ -102,7 +102,7 @@ plainNext p (request image lent r nonce) = plainAfter (plainEffect p image lent 
 plainNext p (finishing image lent ok signature) = plainFinished (plainFinish p image lent ok signature) p
 
 -- "Alike in box and plain box after each call": what was said; "whether a signature is awaited and, if so, which, its answer's length, the
--- prefix and the bytes to hash; phase, peer's size, selection; A, B and M"
+-- prefix and the bytes to hash; phase, peer's size, selection; A, B and M"; the edition too, which "becomes part of the connection state"
 pub record Shown : Type 0 where
   pub said : Said
   pub whose : ℕ
@@ -117,8 +117,8 @@ shows said p = record {
   said = said;
   whose = p .whose;
   answerLength = length (p .answer);
-  prefix = prefixOf (p .whose);
-  hashed = toHash (p .whose) (p .parts);
+  prefix = prefixOf (p .negotiated) (p .whose);
+  hashed = toHash (p .negotiated) (p .whose) (p .parts);
   negotiated = p .negotiated;
   parts = p .parts;
 }

@@ -5,14 +5,14 @@ use Prim.Native.Nat.{ℕ, _+_}
 use lib.ListN.{length}
 use lib.Dec.{ltb, eqb}
 use Rattle.wire.specs.Pick.{pick}
-use Rattle.rules.specs.Limits.{messageLimit, headerLength, version10, version12, versionPhase, capabilitiesPhase, algorithmsPhase}
+use Rattle.rules.specs.Limits.{messageLimit, headerLength, version10, versionPhase, capabilitiesPhase, algorithmsPhase}
 use Rattle.rules.specs.Limits.{getVersion, getCapabilities, negotiateAlgorithms, getDigests, getCertificate, challenge}
 use Rattle.rules.specs.Limits.{getMeasurements, shortStep, longStep, busyStep, codeStep, versionStep, phaseStep, fieldsStep, sizeStep}
 use Rattle.rules.specs.Limits.{roomStep, invalidRequest, busy, unexpectedRequest, unspecified, unsupportedRequest, responseTooLarge}
 use Rattle.rules.specs.Limits.{requestTooLarge, versionMismatch, awaitsNothing}
 use Rattle.rules.specs.Facts.{Facts}
 use Rattle.rules.specs.Parts.{limitOf, countOf}
-use Rattle.rules.specs.Header.{versionByte, codeByte}
+use Rattle.rules.specs.Header.{versionByte, codeByte, byEdition, isEdition, versionOf}
 use Rattle.rules.specs.declared.Negotiated.{Negotiated}
 use Rattle.rules.specs.declared.Awaited.{Awaited}
 use Rattle.rules.specs.declared.State.{State}
@@ -37,6 +37,10 @@ kindOf code =
     (pick (eqb code getMeasurements) (Served kind.Measurements)
     Unserved))))))
 
+-- step 2: "over 4,608 bytes", 0x0E; paper 02, 4: "under 1.1 step 2 answers 0x01"
+abbrev pub longCode : Negotiated → ℕ
+longCode n = byEdition (versionOf n) invalidRequest requestTooLarge
+
 -- step 3: "signature awaited and code not 0x84"
 unfoldable pub mustWait : Awaited → ℕ → Bool
 mustWait w code = pick (eqb (w .whose) awaitsNothing) false (pick (eqb code getVersion) false true)
@@ -51,15 +55,19 @@ serves f kind.Certificate = true
 serves f kind.Challenge = true
 serves f kind.Measurements = ltb 0 (f .measurements)
 
--- step 5: "version byte not 0x10 for GET_VERSION, not 0x12 for others"
-unfoldable pub versionFor : Kind → ℕ
-versionFor kind.Version = version10
-versionFor kind.Capabilities = version12
-versionFor kind.Algorithms = version12
-versionFor kind.Digests = version12
-versionFor kind.Certificate = version12
-versionFor kind.Challenge = version12
-versionFor kind.Measurements = version12
+-- paper 02, 4: "Later requests must carry the chosen byte, else 0x41 .. Before a choice, 0x11 and 0x12 both pass step 5"
+unfoldable pub carries : Negotiated → ℕ → Bool
+carries n version = pick (ltb (n .phase) capabilitiesPhase) (isEdition version) (eqb version (versionOf n))
+
+-- step 5: "version byte not 0x10 for GET_VERSION", not such a byte for others
+unfoldable pub versionFits : Negotiated → ℕ → Kind → Bool
+versionFits n version kind.Version = eqb version version10
+versionFits n version kind.Capabilities = carries n version
+versionFits n version kind.Algorithms = carries n version
+versionFits n version kind.Digests = carries n version
+versionFits n version kind.Certificate = carries n version
+versionFits n version kind.Challenge = carries n version
+versionFits n version kind.Measurements = carries n version
 
 -- step 6: "GET_VERSION in any, ..; GET_CAPABILITIES only in 1, ..; NEGOTIATE_ALGORITHMS only in 2, ..; the rest only in 3, and
 -- GET_MEASUREMENTS only if its specification was selected"
@@ -84,7 +92,7 @@ invalid = refusal fieldsStep invalidRequest 0
 unfoldable pub kindSteps : Facts → State → List ℕ → Kind → Decision → Decision
 kindSteps f s r k next =
     pick (serves f k)
-    (pick (eqb (versionByte r) (versionFor k))
+    (pick (versionFits (s .negotiated) (versionByte r) k)
     (pick (inPhase (s .negotiated) k) next
     (refusal phaseStep unexpectedRequest 0))
     (refusal versionStep versionMismatch 0))
@@ -99,7 +107,7 @@ askedSteps f s r next Unserved = refusal codeStep unsupportedRequest (codeByte r
 unfoldable pub firstSteps : Facts → State → List ℕ → (Kind → Decision) → Decision
 firstSteps f s r next =
     pick (ltb (length r) headerLength) (refusal shortStep invalidRequest 0)
-    (pick (ltb messageLimit (length r)) (refusal longStep requestTooLarge 0)
+    (pick (ltb messageLimit (length r)) (refusal longStep (longCode (s .negotiated)) 0)
     (pick (mustWait (s .awaited) (codeByte r)) (refusal busyStep busy 0)
     (askedSteps f s r next (kindOf (codeByte r)))))
 

@@ -1,8 +1,9 @@
 -- GET_VERSION and VERSION.
-use mathlib.Core.List.{List, _∷_, _++_}
+use mathlib.Core.List.{List, [], _∷_, _++_}
 use Prim.Native.Nat.{ℕ}
 use Rattle.wire.specs.Bytes.{leBytes}
-use Rattle.rules.specs.Limits.{versionPhase, headerLength, versionLength, versionCode, versionEntry}
+use Rattle.rules.specs.Limits.{versionPhase, headerLength, versionLength, versionCode, versionCount, versionEntry11}
+use Rattle.rules.specs.Limits.{versionEntry12}
 use Rattle.rules.specs.State.{clearedAt}
 use Rattle.rules.specs.Header.{header}
 use Rattle.rules.specs.Exchanges.{complete}
@@ -20,6 +21,6 @@ versionExchange = complete kind.Version headerLength versionLength
 abbrev pub versionDecision : Decision
 versionDecision = Accepted message.Version (clearedAt versionPhase) versionExchange
 
--- "VERSION 0x04: header, 0, count 1, entry 0x1200"
+-- "VERSION 0x04: header, 0, count .., entry .."; paper 02, 4: "VERSION lists 1.1 and 1.2, rising"
 unfoldable pub versionBytes : Negotiated → List ℕ
-versionBytes n = header n versionCode 0 0 ++ (0 ∷ 1 ∷ leBytes 2 versionEntry)
+versionBytes n = header n versionCode 0 0 ++ ((0 ∷ versionCount ∷ []) ++ (leBytes 2 versionEntry11 ++ leBytes 2 versionEntry12))

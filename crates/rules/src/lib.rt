@@ -6,6 +6,8 @@ use image::SlotNumber;
 
 // How far the negotiation has come, and what it agreed on.
 pub struct Negotiated {
+    // the version byte of the chosen edition, 0 before the choice
+    pub edition: u32,
     pub phase: u32,
     // the peer's DataTransferSize
     pub peer: u32,

@@ -19,6 +19,8 @@ pub const NONCE_LENGTH: usize = 32;
 
 pub const PEER_LEAST: u32 = 42;
 
+pub const PEER_11: u32 = 4608;
+
 pub const FRESH_PHASE: u32 = 0;
 
 pub const VERSION_PHASE: u32 = 1;
@@ -27,17 +29,25 @@ pub const CAPABILITIES_PHASE: u32 = 2;
 
 pub const ALGORITHMS_PHASE: u32 = 3;
 
-pub const VERSION_USED: u32 = 12;
+pub const VERSION_USED: u32 = 14;
 
-pub const CAPABILITIES_USED: u32 = 52;
+pub const CAPABILITIES_USED_11: u32 = 38;
+
+pub const CAPABILITIES_USED_12: u32 = 54;
 
 pub const HEADER_LENGTH: usize = 4;
 
-pub const VERSION_LENGTH: usize = 8;
+pub const VERSION_LENGTH: usize = 10;
 
-pub const VERSION_ENTRY: usize = 0x1200;
+pub const VERSION_COUNT: u8 = 2;
 
-pub const CAPABILITIES_LAYOUT: usize = 20;
+pub const VERSION_ENTRY_11: usize = 0x1100;
+
+pub const VERSION_ENTRY_12: usize = 0x1200;
+
+pub const CAPABILITIES_LAYOUT_11: usize = 12;
+
+pub const CAPABILITIES_LAYOUT_12: usize = 20;
 
 pub const ALGORITHMS_LENGTH: usize = 36;
 
@@ -61,7 +71,11 @@ pub const PORTION_LIMIT: usize = 1024;
 
 pub const VERSION_10: u8 = 0x10;
 
+pub const VERSION_11: u8 = 0x11;
+
 pub const VERSION_12: u8 = 0x12;
+
+pub const NO_EDITION: u32 = 0;
 
 pub const GET_VERSION: u8 = 0x84;
 

@@ -21,6 +21,7 @@ use rules::limits::SHORT_ANSWER;
 use rules::limits::SHORT_TRANSCRIPT;
 use rules::limits::TRANSCRIPT_LENGTH;
 use rules::limits::UNSPECIFIED;
+use rules::limits::VERSION_11;
 use rules::limits::WRONG_SIGNATURE;
 use rules::limits::WRONG_STATE;
 ghost use mathlib.Core.Path.{_≡_};
@@ -34,16 +35,21 @@ ghost use Rattle.rules.specs.Signing.{spdmText, prefixOf, finishOf, finishBy};
 ghost use Rattle.rules.specs.Parts.{keptByFinishing, keptUsed};
 ghost use Rattle.rules.specs.Box.{Lent, lengthsOf, signedFirst, signedSecond, emptiedState, Finished};
 
-// The prefix that is signed before the hash, for the awaited signature; nothing where none is awaited.
-pub fn write_prefix(whose: u32, out: &mut [u8])
-    ensures { λ _. ⌜ now (out .exit) ≡ splice (now (out .entry)) 0 (prefixOf whose) ⌝ }
+// The prefix that is signed before the hash, for the awaited signature; nothing under 1.1, or where none is awaited.
+pub fn write_prefix(s: State, out: &mut [u8])
+    ensures { λ _. ⌜ now (out .exit) ≡ splice (now (out .entry)) 0 (prefixOf (s .negotiated) (s .awaited .whose)) ⌝ }
 {
-    if whose == AWAITS_CHALLENGE {
+    let n = s.negotiated;
+    let w = s.awaited;
+    if state::version_of(n) == VERSION_11 {
+        return;
+    }
+    if w.whose == AWAITS_CHALLENGE {
         write_texts(out);
         wire::copy_into(out, 64, b"\x00\x00\x00\x00responder-challenge_auth signing");
         return;
     }
-    if whose == AWAITS_MEASUREMENTS {
+    if w.whose == AWAITS_MEASUREMENTS {
         write_texts(out);
         wire::copy_into(
             out,
@@ -64,20 +70,24 @@ fn write_texts(out: &mut [u8])
     );
 }
 
-// The first part of the transcript to hash: A, as a part of the lent buffer.
+// The first part of the transcript to hash: A, as a part of the lent buffer; under 1.1 nothing before M.
 pub fn first_part(s: State, transcript: &[u8]) -> &[u8]
     ensures { λ r. ⌜ now r ≡ signedFirst s (now (transcript .entry)) ⌝ }
 {
+    let n = s.negotiated;
     let u = s.used;
     let w = s.awaited;
     let part = wire::part_of(transcript, A_START, u.a as usize);
     if w.whose == AWAITS_CHALLENGE {
         return part;
     }
-    if w.whose == AWAITS_MEASUREMENTS {
-        return part;
+    if w.whose != AWAITS_MEASUREMENTS {
+        return wire::part_of(part, 0, 0);
     }
-    wire::part_of(part, 0, 0)
+    if state::version_of(n) == VERSION_11 {
+        return wire::part_of(part, 0, 0);
+    }
+    part
 }
 
 // The second part: B, or M.

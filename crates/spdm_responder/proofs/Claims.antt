@@ -5,16 +5,16 @@ use mathlib.Core.Bool.{true, false}
 use mathlib.Core.List.{List, [], _∷_, map}
 use Prim.Native.Nat.{ℕ}
 use lib.ListN.{replicate}
-use lib.Dec.{ltb, eqb}
 use Rattle.wire.specs.Pick.{pick}
 use Rattle.image.specs.Sizes.{digestSize, signatureSize}
 use Rattle.image.specs.Contents.{Contents, recordBytes, recordsBytes, identityBytes, imageBytes}
 use Rattle.image.specs.Reading.{unless, framesOf, identityFault, slotWrong, chainFault, measurementFault, summaryFault, recordFault}
 use Rattle.image.specs.Reading.{endFault, extended, readOn, readAll, reading, number, found}
 use Rattle.image.specs.Held.{maskOf}
-use Rattle.rules.specs.State.{holdsOnly, phaseFits, selectionFits, awaitedFits, ownBounds}
+use Rattle.rules.specs.Header.{versionOf}
+use Rattle.rules.specs.Signing.{prefixOf}
+use Rattle.rules.specs.State.{holdsOnly, phaseFits, selectionFits, awaitedFits, editionFits, ownBounds}
 use Rattle.rules.specs.declared.State.{State}
-use Rattle.rules.specs.declared.Reply.{Reply}
 use Rattle.rules.specs.declared.Reply.the-variants as reply
 use Rattle.spdm_responder.specs.Words.{stateIn, wordsAfter, noState, resultOf, readReply, chipOk}
 use Rattle.spdm_responder.specs.ToSign.{showReply, partsOf, shownPrefix, shownParts}
@@ -31,24 +31,27 @@ image = record {
   summaries = record { tcb = replicate 48 5; all = replicate 48 6 } ∷ [];
 }
 
--- the header's words: phase, peer, selection, A, B, M, awaited, answer
-abbrev words : List ℕ
-words = 3 ∷ 4608 ∷ 1 ∷ 88 ∷ 40 ∷ 50 ∷ 2 ∷ 200 ∷ []
+-- the header's words: phase, peer, selection, A, B, M, awaited, answer, edition
+abbrev words : ℕ → ℕ → List ℕ
+words whose edition = 3 ∷ 4608 ∷ 1 ∷ 88 ∷ 40 ∷ 50 ∷ whose ∷ 200 ∷ edition ∷ []
 
-abbrev held : State
-held = record {
-  negotiated = record { phase = 3; peer = 4608; selection = 1 };
+abbrev awaiting : ℕ → ℕ → State
+awaiting whose edition = record {
+  negotiated = record { phase = 3; peer = 4608; selection = 1; edition = edition };
   used = record { a = 88; b = 40; m = 50 };
-  awaited = record { whose = 2; length = 200 };
+  awaited = record { whose = whose; length = 200 };
 }
 
-pub which-word : (stateIn words ≡ held) × (wordsAfter (replicate 8 5) held ≡ words)
+abbrev held : State
+held = awaiting 2 0x12
+
+pub which-word : (stateIn (words 2 0x12) ≡ held) × (wordsAfter (replicate 9 5) held ≡ words 2 0x12)
 unfolding stateIn wordsAfter pick
 which-word = (refl, refl)
 
 -- any other number of words holds no state, and stays as it is
-pub other-count : (map stateIn (replicate 7 0 ∷ replicate 9 0 ∷ []) ≡ noState ∷ noState ∷ [])
-    × ((wordsAfter (replicate 7 5) held ≡ replicate 7 5) × (wordsAfter (replicate 9 5) held ≡ replicate 9 5))
+pub other-count : (map stateIn (replicate 8 0 ∷ replicate 10 0 ∷ []) ≡ noState ∷ noState ∷ [])
+    × ((wordsAfter (replicate 8 5) held ≡ replicate 8 5) × (wordsAfter (replicate 10 5) held ≡ replicate 10 5))
 unfolding stateIn wordsAfter pick
 other-count = (refl, (refl, refl))
 
@@ -64,22 +67,28 @@ pub chip-words : map chipOk (0 ∷ 1 ∷ 2 ∷ 0xFFFFFFFF ∷ []) ≡ false ∷ 
 unfolding pick
 chip-words = refl
 
--- spdm_to_sign: 11 for prefix and for parts, before 14, before 15; else the prefix's length
+-- spdm_to_sign: 11 for prefix and for parts, before 14, before 15; else the prefix's length, which is 0 under 1.1
 pub shows-in-order : (showReply noState 99 4 ≡ reply.Number 11) × ((showReply noState 100 3 ≡ reply.Number 11)
-    × ((showReply noState 100 4 ≡ reply.Number 14) × ((showReply (stateIn (replicate 8 0)) 100 4 ≡ reply.Number 15)
-    × ((showReply held 100 4 ≡ reply.Answer 100) × (showReply held 101 5 ≡ reply.Answer 100)))))
-unfolding showReply stateIn holdsOnly phaseFits selectionFits awaitedFits ownBounds pick
-shows-in-order = (refl, (refl, (refl, (refl, (refl, refl)))))
+    × ((showReply noState 100 4 ≡ reply.Number 14) × ((showReply (stateIn (replicate 9 0)) 100 4 ≡ reply.Number 15)
+    × ((showReply held 100 4 ≡ reply.Answer 100) × ((showReply held 101 5 ≡ reply.Answer 100)
+    × (map (λ (whose : ℕ). showReply (awaiting whose 0x11) 100 4) (1 ∷ 2 ∷ []) ≡ reply.Answer 0 ∷ reply.Answer 0 ∷ []))))))
+unfolding showReply stateIn holdsOnly phaseFits selectionFits awaitedFits editionFits ownBounds versionOf prefixOf pick
+shows-in-order = (refl, (refl, (refl, (refl, (refl, (refl, refl))))))
+
+-- and a buffer for a prefix is asked for under 1.1 too
+pub asks-room : (showReply (awaiting 1 0x11) 99 4 ≡ reply.Number 11) × (shownPrefix (reply.Answer 0) (awaiting 1 0x11) ≡ [])
+unfolding showReply prefixOf versionOf pick
+asks-room = (refl, refl)
 
 -- with a number neither buffer is written
 pub shows-nothing : (shownPrefix (reply.Number 11) held ≡ []) × (shownParts (reply.Number 11) held ≡ [])
 shows-nothing = (refl, refl)
 
--- offset and length: A at 0, B at 512, M at 8,704
-pub parts-stand : (partsOf held ≡ 0 ∷ 88 ∷ 8704 ∷ 50 ∷ [])
-    × (partsOf (stateIn (3 ∷ 4608 ∷ 1 ∷ 88 ∷ 40 ∷ 50 ∷ 1 ∷ 200 ∷ [])) ≡ 0 ∷ 88 ∷ 512 ∷ 40 ∷ [])
-unfolding partsOf stateIn pick
-parts-stand = (refl, refl)
+-- offset and length: A at 0, B at 512, M at 8,704; under 1.1 nothing before M
+pub parts-stand : (partsOf held ≡ 0 ∷ 88 ∷ 8704 ∷ 50 ∷ []) × ((partsOf (awaiting 1 0x12) ≡ 0 ∷ 88 ∷ 512 ∷ 40 ∷ [])
+    × ((partsOf (awaiting 2 0x11) ≡ 0 ∷ 0 ∷ 8704 ∷ 50 ∷ []) × (partsOf (awaiting 1 0x11) ≡ 0 ∷ 88 ∷ 512 ∷ 40 ∷ [])))
+unfolding partsOf versionOf pick
+parts-stand = (refl, (refl, (refl, refl)))
 
 -- seven words or 11, behind the image's number
 pub tells-image : (algorithmsTold (reading (imageBytes image)) 7 ≡ 20 ∷ 1 ∷ 48 ∷ 7 ∷ 96 ∷ 9 ∷ 2 ∷ [])

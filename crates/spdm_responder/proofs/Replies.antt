@@ -2,7 +2,7 @@
 use mathlib.Core.Path.{_≡_, refl, sym, _∙_, subst}
 use mathlib.Core.Bool.{Bool}
 use mathlib.Core.List.{List}
-use Prim.Native.Nat.{ℕ, _*_, _≤_}
+use Prim.Native.Nat.{ℕ, _≤_}
 use native.Mathlib.Omega.{arith}
 use lib.ListN.{length}
 use borrow.Author.Tests.{ltb-false}
@@ -25,6 +25,7 @@ use Rattle.rules.proofs.Told.{FinishTold, finish-told}
 use Rattle.rules.proofs.Ready.{Ready, ready-image}
 use Rattle.spdm_responder.specs.Words.{resultOf, Fits, readReply}
 use Rattle.spdm_responder.specs.ToSign.{partWords, showReply, partsOf, Shown}
+use Rattle.spdm_responder.proofs.ShownLaws.{prefix-long}
 use Rattle.spdm_responder.proofs.Numbers.{Few, few-number, few-refused, few-accepted, few, FewRead, few-read}
 
 abbrev Numbered : Effect → Type 0
@@ -84,12 +85,18 @@ read-fits b = by (reading b) (few-read b)
     by (number k) h = omega arith
     by (found c) h = omega arith
 
--- what is shown to sign
+-- what is shown to sign: the prefix, or none
+prefix-fits : (s : State) → length (prefixOf (s .negotiated) (s .awaited .whose)) ≤ messageLimit
+prefix-fits s =
+    let P : ℕ → Type 0 = λ n. n ≤ messageLimit in
+    rw (prefix-long (s .negotiated) (s .awaited .whose))
+    (pick-case P _ _ _ (λ _. omega arith) (λ _. pick-case P _ _ _ (λ _. omega arith) (λ _. pick-case P _ _ _ (λ _. omega arith) (λ _. omega arith))))
+
 pub shown-fits : (s : State) (prefix parts : ℕ) → Fits (showReply s prefix parts)
 unfolding showReply
 shown-fits s prefix parts =
     pick-case Fits _ _ _ (λ _. omega arith) (λ _. pick-case Fits _ _ _ (λ _. omega arith)
-    (λ _. pick-case Fits _ _ _ (λ _. pick-case Fits _ _ _ (λ _. omega arith) (λ _. omega arith)) (λ _. omega arith)))
+    (λ _. pick-case Fits _ _ _ (λ _. pick-case Fits _ _ _ (λ _. omega arith) (λ _. prefix-fits s)) (λ _. omega arith)))
 
 -- an answer is no number
 pub no-number : {k n : ℕ} → reply.Number k ≡ reply.Answer n → ⊥
@@ -118,6 +125,6 @@ shown-number l out e g w = rw (sym e ∙ g) (record { result = w ∙ rw g; prefi
 
 -- else the prefix and the parts
 pub shown-answer : {s : State} {l l′ out out′ : List ℕ} {y : Reply} → y ≡ showReply s (length l) (length out) → {n : ℕ} → y ≡ reply.Answer n
-    → l′ ≡ splice l 0 (prefixOf (s .awaited .whose)) → out′ ≡ splice out 0 (partsOf s)
+    → l′ ≡ splice l 0 (prefixOf (s .negotiated) (s .awaited .whose)) → out′ ≡ splice out 0 (partsOf s)
     → {r : ℕ} → r ≡ resultOf y → Shown (showReply s (length l) (length out)) s l l′ out out′ r
 shown-answer e g p q w = rw (sym e ∙ g) (record { result = w ∙ rw g; prefix = p; parts = q })

@@ -1,4 +1,4 @@
--- The connection state as the host holds it, eight words, and the word that a call returns.
+-- The connection state as the host holds it, nine words, and the word that a call returns.
 use mathlib.Core.Bool.{Bool, true, false}
 use mathlib.Core.List.{List, [], _∷_}
 use Prim.Native.Nat.{ℕ, _*_, _≤_}
@@ -14,7 +14,7 @@ use Rattle.rules.specs.declared.Reply.{Reply}
 use Rattle.rules.specs.declared.Reply.the-variants as reply
 
 abbrev pub stateWords : ℕ
-stateWords = 8
+stateWords = 9
 
 -- a phase that there is not
 abbrev pub noPhase : ℕ
@@ -29,7 +29,7 @@ unfoldable pub stateIn : List ℕ → State
 stateIn w =
     pick (eqb (length w) stateWords)
     (record {
-      negotiated = record { phase = getD w 0 0; peer = getD w 1 0; selection = getD w 2 0 };
+      negotiated = record { phase = getD w 0 0; peer = getD w 1 0; selection = getD w 2 0; edition = getD w 8 0 };
       used = record { a = getD w 3 0; b = getD w 4 0; m = getD w 5 0 };
       awaited = record { whose = getD w 6 0; length = getD w 7 0 };
     })
@@ -40,6 +40,7 @@ wordsOf s =
     s .negotiated .phase ∷ s .negotiated .peer ∷ s .negotiated .selection
     ∷ s .used .a ∷ s .used .b ∷ s .used .m
     ∷ s .awaited .whose ∷ s .awaited .length
+    ∷ s .negotiated .edition
     ∷ []
 
 -- what the host's words hold once a state was put there; any other number of words stays as it is

@@ -1,4 +1,4 @@
-// The responder as C calls it: slices are a pointer and a length, the state is eight words, and a result is number · 65,536 +
+// The responder as C calls it: slices are a pointer and a length, the state is nine words, and a result is number · 65,536 +
 // answer length. Nothing is asked of a caller but lent memory: every length is tested.
 use image::Index;
 use image::Verdict;
@@ -15,6 +15,7 @@ use rules::limits::B_START;
 use rules::limits::M_START;
 use rules::limits::NOTHING_AWAITED;
 use rules::limits::SHORT_ANSWER;
+use rules::limits::VERSION_11;
 use rules::limits::WRONG_STATE;
 ghost use mathlib.Core.Path.{_≡_};
 ghost use mathlib.Core.List.{[], _∷_};
@@ -23,7 +24,7 @@ ghost use lib.ListN.{length};
 ghost use Rattle.wire.specs.Bytes.{splice};
 ghost use Rattle.image.specs.Reading.{reading};
 ghost use Rattle.rules.specs.Effects.{Effect, effectBy};
-ghost use Rattle.rules.specs.Signing.{finishBy};
+ghost use Rattle.rules.specs.Signing.{prefixOf, beforeM, finishBy};
 ghost use Rattle.rules.specs.Box.{Lent, lengthsOf};
 ghost use Rattle.rules.specs.declared.Finish.{Finish};
 ghost use Rattle.spdm_responder.specs.Words.{noState, stateIn, wordsAfter, resultOf, Fits, readReply, chipOk};
@@ -32,7 +33,7 @@ ghost use Rattle.spdm_responder.specs.ToSign.{showReply, partsOf, Shown}
 ghost use Rattle.spdm_responder.specs.ImageAlgorithms.{verdictReply, algorithmsIn, AlgorithmsTold};
 
 // The C interface's own sizes; those of the paper are rules'.
-const STATE_WORDS: usize = 8;
+const STATE_WORDS: usize = 9;
 
 const PREFIX_LENGTH: usize = 100;
 
@@ -69,6 +70,7 @@ fn state_in(words: &[u32]) -> State
     }
     State {
         negotiated: Negotiated {
+            edition: words[8],
             phase: words[0],
             peer: words[1],
             selection: words[2],
@@ -103,6 +105,7 @@ fn put_state(words: &mut [u32], s: State)
     words[5] = u.m;
     words[6] = w.whose;
     words[7] = w.length;
+    words[8] = n.edition;
 }
 
 // What a call returns to the host.
@@ -176,6 +179,24 @@ pub extern "C" fn spdm_finish(
     result_of(reply)
 }
 
+// The prefix's length: under 1.1, and where no signature is awaited, there is none.
+fn prefix_shown(s: State) -> usize
+    ensures { λ n. ⌜ n ≡ length (prefixOf (s .negotiated) (s .awaited .whose)) ⌝ }
+{
+    let n = s.negotiated;
+    let w = s.awaited;
+    if state::version_of(n) == VERSION_11 {
+        return 0;
+    }
+    if w.whose == AWAITS_CHALLENGE {
+        return PREFIX_LENGTH;
+    }
+    if w.whose == AWAITS_MEASUREMENTS {
+        return PREFIX_LENGTH;
+    }
+    0
+}
+
 // A number, or the prefix's length.
 fn decide_show(s: State, prefix: usize, parts: usize) -> Reply
     ensures { λ r. ⌜ r ≡ showReply s prefix parts ⌝ }
@@ -193,7 +214,7 @@ fn decide_show(s: State, prefix: usize, parts: usize) -> Reply
     if w.whose == AWAITS_NOTHING {
         return Reply::Number(NOTHING_AWAITED);
     }
-    Reply::Answer(PREFIX_LENGTH)
+    Reply::Answer(prefix_shown(s))
 }
 
 fn write_four(out: &mut [u32], a: u32, b: u32, c: u32, d: u32)
@@ -206,7 +227,19 @@ fn write_four(out: &mut [u32], a: u32, b: u32, c: u32, d: u32)
     out[3] = d;
 }
 
-// Offset and length of A, then of B or M.
+// The bytes of A that are hashed before M: under 1.1 none.
+fn used_before_m(s: State) -> u32
+    ensures { λ n. ⌜ n ≡ beforeM (s .negotiated) 0 (s .used .a) ⌝ }
+{
+    let n = s.negotiated;
+    let u = s.used;
+    if state::version_of(n) == VERSION_11 {
+        return 0;
+    }
+    u.a
+}
+
+// Offset and length of A, then of B or M; under 1.1 nothing of A stands before M.
 fn write_parts(s: State, out: &mut [u32])
     requires { ⌜ 4 ≤ length (now out) ⌝ }
     ensures { λ _. ⌜ now (out .exit) ≡ splice (now (out .entry)) 0 (partsOf s) ⌝ }
@@ -218,7 +251,7 @@ fn write_parts(s: State, out: &mut [u32])
         return;
     }
     if w.whose == AWAITS_MEASUREMENTS {
-        write_four(out, A_START as u32, u.a, M_START as u32, u.m);
+        write_four(out, A_START as u32, used_before_m(s), M_START as u32, u.m);
     }
 }
 
@@ -231,12 +264,11 @@ pub extern "C" fn spdm_to_sign(state: &[u32], prefix: &mut [u8], parts: &mut [u3
         Shown y s (now (prefix .entry)) (now (prefix .exit)) (now (parts .entry)) (now (parts .exit)) r) ⌝ }
 {
     let s = state_in(state);
-    let w = s.awaited;
     let reply = decide_show(s, prefix.len(), parts.len());
     match reply {
         Reply::Number(_) => result_of(reply),
         Reply::Answer(_) => {
-            signing::write_prefix(w.whose, prefix);
+            signing::write_prefix(s, prefix);
             write_parts(s, parts);
             result_of(reply)
         }

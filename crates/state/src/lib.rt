@@ -10,22 +10,26 @@ use rules::limits::AWAITS_MEASUREMENTS;
 use rules::limits::AWAITS_NOTHING;
 use rules::limits::B_LIMIT;
 use rules::limits::CAPABILITIES_PHASE;
-use rules::limits::CAPABILITIES_USED;
+use rules::limits::CAPABILITIES_USED_11;
+use rules::limits::CAPABILITIES_USED_12;
 use rules::limits::FIELDS_STEP;
 use rules::limits::FRESH_PHASE;
 use rules::limits::GET_MEASUREMENTS;
 use rules::limits::HEADER_LENGTH;
 use rules::limits::M_LIMIT;
 use rules::limits::MESSAGE_LIMIT;
+use rules::limits::NO_EDITION;
+use rules::limits::PEER_11;
 use rules::limits::PEER_LEAST;
 use rules::limits::ROOM_STEP;
 use rules::limits::VERSION_10;
+use rules::limits::VERSION_11;
 use rules::limits::VERSION_12;
 use rules::limits::VERSION_PHASE;
 use rules::limits::VERSION_USED;
 ghost use mathlib.Core.Path.{_≡_};
-ghost use Rattle.rules.specs.State.{fresh as freshState, holdsOnly, phaseFits, selectionFits, awaitedFits, ownBounds};
-ghost use Rattle.rules.specs.State.{selectionHeld, awaitedLong, inBounds};
+ghost use Rattle.rules.specs.State.{fresh as freshState, holdsOnly, capabilitiesUsed, phaseFits, selectionFits, awaitedFits};
+ghost use Rattle.rules.specs.State.{editionFits, ownBounds, selectionHeld, awaitedLong, inBounds};
 ghost use Rattle.rules.specs.Facts.{Facts};
 ghost use Rattle.rules.specs.Header.{versionOf};
 ghost use Rattle.rules.specs.Parts.{keptByRefusal};
@@ -37,6 +41,7 @@ pub fn fresh() -> State
 {
     State {
         negotiated: Negotiated {
+            edition: NO_EDITION,
             phase: FRESH_PHASE,
             peer: 0,
             selection: 0,
@@ -61,6 +66,16 @@ fn holds_only(u: Used, n: u32) -> bool
     u.m == 0
 }
 
+// What A holds in phase 2.
+fn capabilities_used(n: Negotiated) -> u32
+    ensures { λ r. ⌜ r ≡ capabilitiesUsed (versionOf n) ⌝ }
+{
+    if version_of(n) == VERSION_11 {
+        return CAPABILITIES_USED_11;
+    }
+    CAPABILITIES_USED_12
+}
+
 fn phase_fits(n: Negotiated, u: Used) -> bool
     ensures { λ r. ⌜ r ≡ phaseFits n u ⌝ }
 {
@@ -74,7 +89,7 @@ fn phase_fits(n: Negotiated, u: Used) -> bool
         return false;
     }
     if n.phase == CAPABILITIES_PHASE {
-        return holds_only(u, CAPABILITIES_USED);
+        return holds_only(u, capabilities_used(n));
     }
     true
 }
@@ -106,6 +121,18 @@ fn awaited_fits(n: Negotiated, w: Awaited) -> bool
     w.length as usize <= MESSAGE_LIMIT
 }
 
+fn edition_fits(n: Negotiated) -> bool
+    ensures { λ r. ⌜ r ≡ editionFits n ⌝ }
+{
+    if version_of(n) == VERSION_10 {
+        return n.edition == NO_EDITION;
+    }
+    if n.edition == VERSION_11 as u32 {
+        return n.peer == PEER_11;
+    }
+    n.edition == VERSION_12 as u32
+}
+
 // Whether a state that the host hands in lies within the bounds that need no image.
 pub fn own_bounds(s: State) -> bool
     ensures { λ r. ⌜ r ≡ ownBounds s ⌝ }
@@ -131,7 +158,10 @@ pub fn own_bounds(s: State) -> bool
     if !selection_fits(n) {
         return false;
     }
-    awaited_fits(n, w)
+    if !awaited_fits(n, w) {
+        return false;
+    }
+    edition_fits(n)
 }
 
 fn selection_held(measurements: u8, n: Negotiated) -> bool
@@ -192,6 +222,9 @@ pub fn version_of(n: Negotiated) -> u8
 {
     if n.phase < CAPABILITIES_PHASE {
         return VERSION_10;
+    }
+    if n.edition == VERSION_11 as u32 {
+        return VERSION_11;
     }
     VERSION_12
 }

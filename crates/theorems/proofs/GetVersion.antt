@@ -10,9 +10,9 @@ use Rattle.image.specs.Contents.{Contents}
 use Rattle.image.specs.Reading.{Result, number, found}
 use Rattle.rules.specs.Limits.{versionPhase, getVersion}
 use Rattle.rules.specs.Facts.{Facts, factsOf}
-use Rattle.rules.specs.State.{clearedAt, fresh, holdsOnly, phaseFits, selectionFits, awaitedFits, ownBounds, selectionHeld, awaitedLong, inBounds}
-use Rattle.rules.specs.Header.{codeByte}
-use Rattle.rules.specs.Steps.{kindOf, mustWait, serves, inPhase}
+use Rattle.rules.specs.State.{clearedAt, fresh, holdsOnly, phaseFits, selectionFits, awaitedFits, editionFits, ownBounds, selectionHeld, awaitedLong, inBounds}
+use Rattle.rules.specs.Header.{codeByte, versionOf}
+use Rattle.rules.specs.Steps.{kindOf, mustWait, serves, versionFits, inPhase}
 use Rattle.rules.specs.Version.{versionExchange, versionDecision, versionBytes}
 use Rattle.rules.specs.Messages.{messageBytes}
 use Rattle.rules.specs.Decisions.{lastSteps, decisionOf}
@@ -31,13 +31,13 @@ versionEffect r = answered message.Version (clearedAt versionPhase) versionExcha
 
 -- a fresh state is within its bounds
 fresh-bounds : (f : Facts) → inBounds f fresh ≡ true
-unfolding inBounds ownBounds selectionHeld awaitedLong phaseFits holdsOnly selectionFits awaitedFits pick
+unfolding inBounds ownBounds selectionHeld awaitedLong phaseFits holdsOnly selectionFits awaitedFits editionFits versionOf pick
 fresh-bounds f = refl
 
 -- what an accepted GET_VERSION passed, a fresh state passes
 fresh-decides : (f : Facts) (s : State) (lent : Lengths) (nonce : ℕ) (r : List ℕ) (d : Decision) → PassedAs f s lent nonce r d kind.Version
     → decisionOf f fresh lent nonce r ≡ versionDecision
-unfolding mustWait serves inPhase lastSteps pick
+unfolding mustWait serves versionFits inPhase lastSteps pick
 fresh-decides f s lent nonce r d z =
     let c = z .called in
     let p = z .passed in

@@ -11,8 +11,8 @@ use Rattle.wire.specs.Pick.{pick}
 use Rattle.image.specs.Contents.{Contents}
 use Rattle.rules.specs.Limits.{messageLimit, transcriptLength, nonceLength, headerLength}
 use Rattle.rules.specs.Facts.{Facts}
-use Rattle.rules.specs.Header.{versionByte, codeByte}
-use Rattle.rules.specs.Steps.{kindOf, versionFor, kindSteps, askedSteps, firstSteps}
+use Rattle.rules.specs.Header.{codeByte}
+use Rattle.rules.specs.Steps.{kindOf, kindSteps, askedSteps, firstSteps}
 use Rattle.rules.specs.Decisions.{lastSteps, requestDecision, decisionOf}
 use Rattle.rules.specs.Effects.{effectOf, replyOf}
 use Rattle.rules.specs.declared.State.{State}
@@ -56,8 +56,7 @@ module _ (f : Facts) (s : State) (lent : Lengths) (nonce : ℕ) (r : List ℕ) (
       let drawn : eqb nonce nonceLength ≡ true = eq-eqb _ _ (z .drawn) in
       let least : ltb (length r) headerLength ≡ false = le-ltb _ _ (p .least) in
       let most : ltb messageLimit (length r) ≡ false = le-ltb _ _ (p .most) in
-      let version : eqb (versionByte r) (versionFor (p .kind)) ≡ true = eq-eqb _ _ (p .version) in
-      rw (buffer, room, drawn, z .bounds, least, most, p .free, p .asked, p .served, version, p .phase) (p .decided)
+      rw (buffer, room, drawn, z .bounds, least, most, p .free, p .asked, p .served, p .version, p .phase) (p .decided)
 
   -- a request of the kind k, accepted: its tests passed, and d is what that kind's own steps decide
   pub record PassedAs (k : Kind) : Type 0 where

@@ -22,6 +22,7 @@ use Rattle.rules.specs.Certificate.{lengthAsked, portionOf, certificateExchange
 use Rattle.rules.specs.Effects.{Change, Effect, accept, effectBy, replyOf}
 use Rattle.rules.specs.Plain.{Shown}
 use Rattle.rules.specs.Box.{lengthsOf, changedState, stateAfter}
+use Rattle.rules.specs.declared.Negotiated.{Negotiated}
 use Rattle.rules.specs.declared.State.{State}
 use Rattle.rules.specs.declared.Lengths.{Lengths}
 use Rattle.rules.proofs.Ready.{added-length}
@@ -40,8 +41,9 @@ record Got (chain : List ℕ) (n : ℕ) (v : View) : Type 0 where
   paid : length (v .held) < length chain → askedLeast * n ≤ length (v .held)
   few : askedLeast * n < length chain + askedLeast
 
--- and the box will serve its next read, with room for the rest of the chain
-record Going (chain : List ℕ) (n : ℕ) (v : View) (s : State) : Type 0 where
+-- and the box, which still holds what was negotiated, will serve its next read, with room for the rest of the chain
+record Going (agreed : Negotiated) (chain : List ℕ) (n : ℕ) (v : View) (s : State) : Type 0 where
+  holds : s .negotiated ≡ agreed
   got : Got chain n v
   serves : Serves (s .negotiated) (s .awaited)
   room : length (v .held) < length chain → Room (s .used .b) (length chain - length (v .held))
@@ -60,7 +62,7 @@ ahead L h q y = omega arith
 abbrev nextView : List ℕ → View → ℕ → View
 nextView chain v q = record { held = v .held ++ part chain (length (v .held)) q; left = length chain - length (v .held) - q }
 
-module _ (chain : List ℕ) (n : ℕ) (v : View) (s : State) (g : Going chain n v s) (lt : length (v .held) < length chain) (q : ℕ)
+module _ (agreed : Negotiated) (chain : List ℕ) (n : ℕ) (v : View) (s : State) (g : Going agreed chain n v s) (lt : length (v .held) < length chain) (q : ℕ)
     (p : Portion (length chain - length (v .held)) (s .negotiated .peer) q) where
   abbrev h : ℕ
   h = length (v .held)
@@ -86,9 +88,10 @@ module _ (chain : List ℕ) (n : ℕ) (v : View) (s : State) (g : Going chain n 
   }
 
   -- and the box goes on in a state t that serves reads and holds the read in B
-  goes-on : (t : State) → Serves (t .negotiated) (t .awaited) → t .used .b ≡ s .used .b + (certificateLayout + (certificateHead + q))
-      → Going chain (suc n) (nextView chain v q) t
-  goes-on t serves used = record {
+  goes-on : (t : State) → t .negotiated ≡ s .negotiated → Serves (t .negotiated) (t .awaited) → t .used .b ≡ s .used .b + (certificateLayout + (certificateHead + q))
+      → Going agreed chain (suc n) (nextView chain v q) t
+  goes-on t kept serves used = record {
+    holds = kept ∙ g .holds;
     got = got-more;
     serves = serves;
     room = λ y.
@@ -108,18 +111,18 @@ told : (b : Held) (image answer : List ℕ) (lent : ℕ) (r nonce out : List ℕ
 unfolding boxSaid boxNext
 told b image answer lent r nonce out change e fits = (rw e (part-splice answer 0 out (omega arith)), rw e)
 
-module _ (c : Contents) (k : ℕ) (short : length (slotChain c k) ≤ chainLimit) where
+module _ (agreed : Negotiated) (c : Contents) (k : ℕ) (short : length (slotChain c k) ≤ chainLimit) where
   abbrev chain : List ℕ
   chain = slotChain c k
 
   -- the call x is answered by a CERTIFICATE with the next portion
   abbrev Answers : ℕ → View → Held → Call → Type 0
   Answers n v b x =
-      (codeByte (boxSaid b x .bytes) ≡ certificateCode) × Going chain (suc n) (lookAt v (boxSaid b x .bytes)) (boxNext b x .state)
+      (codeByte (boxSaid b x .bytes) ≡ certificateCode) × Going agreed chain (suc n) (lookAt v (boxSaid b x .bytes)) (boxNext b x .state)
 
   -- so is every read that draws no number; a finishing is no read
-  answers : (n : ℕ) (v : View) (b : Held) (x : Call) → reading (imageOf x) ≡ found c → Going chain n v (b .state) → 0 < v .left
-      → IsRead k (length (v .held)) (requestIn x) → NoNumber (boxSaid b x .reply) → Answers n v b x
+  answers : (n : ℕ) (v : View) (b : Held) (x : Call) → reading (imageOf x) ≡ found c → Going agreed chain n v (b .state) → 0 < v .left
+      → IsRead agreed k (length (v .held)) (requestIn x) → NoNumber (boxSaid b x .reply) → Answers n v b x
   unfolding boxSaid pick
   answers n v b (ask image answer lent r nonce) holds g l i u =
       let x : Call = ask image answer lent r nonce in
@@ -131,10 +134,11 @@ module _ (c : Contents) (k : ℕ) (short : length (slotChain c k) ≤ chainLimit
       let out : List ℕ = certificateBytes c (s .negotiated) k h q (L - h - q) in
       let lt : h < L = g .got .more l in
       let p : Portion (L - h) (s .negotiated .peer) q = portion (lengthAsked r) (L - h) (s .negotiated .peer) (i .asks) (g .serves .peer) in
-      let m : length (part chain h q) ≡ q = portion-long chain n v s g lt q p in
+      let m : length (part chain h q) ≡ q = portion-long agreed chain n v s g lt q p in
       let back : ReadsBack (part chain h q) (L - h - q) out =
       reads-back c (s .negotiated) k h q (L - h - q) (omega (arith, p .small)) (omega arith) m in
-      let e = served c s r k h L q i refl refl (g .serves) lt (p .fits) (room-now L h q (s .used .b) (p .all) (g .room lt)) lengths nonce
+      let read : IsRead (s .negotiated) k h r = subst (λ (y : Negotiated). IsRead y k h r) (sym (g .holds)) i in
+      let e = served c s r k h L q read refl refl (g .serves) lt (p .fits) (room-now L h q (s .used .b) (p .all) (g .room lt)) lengths nonce
       (subst (λ (y : Result Contents). NoNumber (replyOf (effectIn b answer lent r nonce y))) holds u) in
       let z : out ++ [] ≡ out = append-nil out in
       let long : length out ≡ certificateHead + q = omega (arith, back .long, m) in
@@ -146,9 +150,9 @@ module _ (c : Contents) (k : ℕ) (short : length (slotChain c k) ≤ chainLimit
       let after : State = boxNext b x .state in
       let serves : Serves (after .negotiated) (after .awaited) =
       rw (t .1) (record { phase = g .serves .phase; peer = g .serves .peer; idle = refl }) in
-      let goes : Going chain (suc n) (nextView chain v q) after =
-      goes-on chain n v s g lt q p after serves (ap (λ (y : State). y .used .b) (t .1) ∙ ap (λ (y : ℕ). s .used .b + y) grown) in
-      (ap codeByte said ∙ back .code, subst (λ (y : View). Going chain (suc n) y after) (sees ∙ ap (lookAt v) (sym said)) goes)
+      let goes : Going agreed chain (suc n) (nextView chain v q) after =
+      goes-on agreed chain n v s g lt q p after (ap (λ (y : State). y .negotiated) (t .1)) serves (ap (λ (y : State). y .used .b) (t .1) ∙ ap (λ (y : ℕ). s .used .b + y) grown) in
+      (ap codeByte said ∙ back .code, subst (λ (y : View). Going agreed chain (suc n) y after) (sees ∙ ap (lookAt v) (sym said)) goes)
   answers n v b (sign image answer lent ok signature) holds g l i u = absurd (omega (arith, i .whole))
 
   -- a list of reads and answers behind n reads
@@ -157,7 +161,7 @@ module _ (c : Contents) (k : ℕ) (short : length (slotChain c k) ≤ chainLimit
     got : Got chain (n + length xs) (looked v xs)
 
   all-answered : (n : ℕ) (v : View) (b : Held) (reads : List Call) → Each (λ (x : Call). reading (imageOf x) ≡ found c) reads
-      → Going chain n v (b .state) → Each (λ (x : Shown). NoNumber (x .said .reply)) (boxRun b reads) → OnlyReads k v (seen b reads)
+      → Going agreed chain n v (b .state) → Each (λ (x : Shown). NoNumber (x .said .reply)) (boxRun b reads) → OnlyReads agreed k v (seen b reads)
       → Answered n v (seen b reads)
   unfolding boxRun OnlyReads seen looked
   all-answered n v b [] hs g us os = record { certificates = tt; got = subst (λ (m : ℕ). Got chain m v) (sym (add-zero n)) (g .got) }
@@ -212,8 +216,9 @@ module _ (c : Contents) where
   after-digests valid b (x ∷ (y ∷ ys)) more hs e once s = absurd (omega arith)
 
 -- before the first read
-sets-out : (chain : List ℕ) (s : State) → length chain ≤ chainLimit → 0 < length chain → ServesWith digestsMost s → Going chain 0 nothing s
+sets-out : (chain : List ℕ) (s : State) → length chain ≤ chainLimit → 0 < length chain → ServesWith digestsMost s → Going (s .negotiated) chain 0 nothing s
 sets-out chain s short some r = record {
+  holds = refl;
   got = record { first = refl; more = λ _. some; done = λ e. absurd (omega arith); paid = λ _. omega arith; few = omega arith };
   serves = r .serves;
   room = λ _. capacity (s .used .b) (length chain) (r .used) short;
@@ -244,7 +249,7 @@ reads-whole h image c k s p =
     let begins : ServesWith 0 (b .state) = after-negotiation c (atAlgorithms h s) (s .algorithms) (hs .0) (p .algorithms) (p .negotiated) in
     let serves : ServesWith digestsMost (atReads h s .state) =
     after-digests c valid b (s .digests) (s .reads) (hs .1) (p .digests) (p .once) begins in
-    let z = all-answered c k short 0 nothing (atReads h s) (s .reads) (each-back Holds (s .digests) (s .reads) (hs .1))
+    let z = all-answered (atReads h s .state .negotiated) c k short 0 nothing (atReads h s) (s .reads) (each-back Holds (s .digests) (s .reads) (hs .1))
     (sets-out chain (atReads h s .state) short (p .filled) serves) (run-back NoneTold b (s .digests) (s .reads) (us .1)) (p .reads) in
     let n : ℕ = length (readsSeen h s) in
     let v : View = looked nothing (readsSeen h s) in

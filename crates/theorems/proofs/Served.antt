@@ -11,9 +11,9 @@ use Rattle.wire.specs.Pick.{pick}
 use Rattle.image.specs.Contents.{Contents}
 use Rattle.image.specs.Reading.{found}
 use Rattle.image.specs.Held.{slotChain}
-use Rattle.rules.specs.Limits.{messageLimit, bLimit, certificateLayout, certificateHead, awaitsNothing}
+use Rattle.rules.specs.Limits.{messageLimit, bLimit, capabilitiesPhase, certificateLayout, certificateHead, awaitsNothing}
 use Rattle.rules.specs.Facts.{factsOf}
-use Rattle.rules.specs.Steps.{kindOf, mustWait, serves, versionFor, inPhase, wholeLength, addedLength, sizeSteps}
+use Rattle.rules.specs.Steps.{kindOf, mustWait, serves, carries, versionFits, inPhase, wholeLength, addedLength, sizeSteps}
 use Rattle.rules.specs.Certificate.{lengthAsked, portionOf, certificateExchange, portionDecision, certificateDecision, certificateBytes}
 use Rattle.rules.specs.Messages.{messageBytes}
 use Rattle.rules.specs.Decisions.{lastSteps, decisionOf}
@@ -31,7 +31,7 @@ use Rattle.theorems.proofs.Passes.{was-unnumbered, decides}
 use Rattle.theorems.proofs.Serving.{Serves}
 
 -- a read of slot k at h, below the chain's end L, with a portion of q bytes
-module _ (c : Contents) (s : State) (r : List ℕ) (k h L q : ℕ) (i : IsRead k h r) (long : L ≡ length (slotChain c k))
+module _ (c : Contents) (s : State) (r : List ℕ) (k h L q : ℕ) (i : IsRead (s .negotiated) k h r) (long : L ≡ length (slotChain c k))
     (least : q ≡ portionOf (lengthAsked r) (L - h) (s .negotiated .peer)) (ready : Serves (s .negotiated) (s .awaited)) (lt : h < L)
     (fits : certificateHead + q ≤ s .negotiated .peer) (room : s .used .b + (certificateLayout + (certificateHead + q)) ≤ bLimit) where
   abbrev portionMessage : Message
@@ -55,8 +55,9 @@ module _ (c : Contents) (s : State) (r : List ℕ) (k h L q : ℕ) (i : IsRead k
 
   -- steps 1–6
   passes : Passed (factsOf c) s r certificate
-  unfolding kindOf mustWait serves versionFor inPhase lastSteps pick
+  unfolding kindOf mustWait serves carries versionFits inPhase lastSteps pick
   passes =
+      let chosen : ltb (s .negotiated .phase) capabilitiesPhase ≡ false = rw (ready .phase) in
       let idle : eqb (s .awaited .whose) awaitsNothing ≡ true = eq-eqb _ _ (ready .idle) in
       record {
         least = omega (arith, i .whole);
@@ -65,7 +66,7 @@ module _ (c : Contents) (s : State) (r : List ℕ) (k h L q : ℕ) (i : IsRead k
         kind = kind.Certificate;
         asked = rw (i .code);
         served = refl;
-        version = i .version;
+        version = rw chosen (eq-eqb _ _ (i .version));
         phase = eq-eqb _ _ (ready .phase);
         decided = last-steps;
       }

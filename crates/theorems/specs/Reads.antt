@@ -7,11 +7,12 @@ use Rattle.wire.specs.Bytes.{Bytes, leAt, part}
 use Rattle.image.specs.Contents.{Contents, Each}
 use Rattle.image.specs.Reading.{reading, found}
 use Rattle.image.specs.Held.{slotChain}
-use Rattle.rules.specs.Limits.{messageLimit, certificateLayout, certificateHead, version12, negotiateAlgorithms, getDigests, getCertificate}
+use Rattle.rules.specs.Limits.{messageLimit, certificateLayout, certificateHead, negotiateAlgorithms, getDigests, getCertificate}
 use Rattle.rules.specs.Limits.{certificateCode}
-use Rattle.rules.specs.Header.{versionByte, codeByte}
+use Rattle.rules.specs.Header.{versionByte, codeByte, versionOf}
 use Rattle.rules.specs.Certificate.{slotAsked, offsetAsked, lengthAsked}
 use Rattle.rules.specs.Plain.{Shown}
+use Rattle.rules.specs.declared.Negotiated.{Negotiated}
 use Rattle.rules.specs.declared.Reply.{Reply}
 use Rattle.rules.specs.declared.Reply.the-variants as reply
 use Rattle.theorems.specs.Runs.{Call, imageOf, requestIn, Held, boxNext, boxSaid, boxRun, Accepts, Restarts}
@@ -79,12 +80,12 @@ looked v (x ∷ xs) = looked (lookAt v (x .answer)) xs
 abbrev pub askedLeast : ℕ
 askedLeast = 34
 
--- a read of a slot from an offset on; the high half of Param1, Param2 and the bytes behind the layout are free
-pub record IsRead (k offset : ℕ) (r : List ℕ) : Type 0 where
-  -- "a whole request of at most 4,608 bytes with the right version byte"
+-- a read of a slot from an offset on, under what was negotiated; the high half of Param1, Param2 and the bytes behind the layout are free
+pub record IsRead (n : Negotiated) (k offset : ℕ) (r : List ℕ) : Type 0 where
+  -- "a whole request of at most 4,608 bytes with the right version byte": the chosen edition's, as paper 02, 4 says
   pub whole : certificateLayout ≤ length r
   pub most : length r ≤ messageLimit
-  pub version : versionByte r ≡ version12
+  pub version : versionByte r ≡ versionOf n
   -- "slot in the low half of Param1, offset at 4, length at 6"
   pub code : codeByte r ≡ getCertificate
   pub slot : slotAsked r ≡ k
@@ -93,9 +94,9 @@ pub record IsRead (k offset : ℕ) (r : List ℕ) : Type 0 where
   pub asks : askedLeast ≤ lengthAsked r
 
 -- "only reads one filled slot from offset 0 until no byte remains, each time at the sum of the portions it holds"
-unfoldable pub OnlyReads : ℕ → View → List Seen → Type 0
-OnlyReads k v [] = Unit {0}
-OnlyReads k v (x ∷ xs) = (0 < v .left) × (IsRead k (length (v .held)) (x .request) × OnlyReads k (lookAt v (x .answer)) xs)
+unfoldable pub OnlyReads : Negotiated → ℕ → View → List Seen → Type 0
+OnlyReads n k v [] = Unit {0}
+OnlyReads n k v (x ∷ xs) = (0 < v .left) × (IsRead n k (length (v .held)) (x .request) × OnlyReads n k (lookAt v (x .answer)) xs)
 
 abbrev pub NoNumber : Reply → Type 0
 NoNumber (reply.Number n) = ⊥
@@ -120,7 +121,7 @@ pub record Requester (h : Held) (image : List ℕ) (c : Contents) (k : ℕ) (s :
   pub once : length (s .digests) ≤ 1
   -- "and then only reads one filled slot .."
   pub filled : 0 < length (slotChain c k)
-  pub reads : OnlyReads k nothing (readsSeen h s)
+  pub reads : OnlyReads (atReads h s .state .negotiated) k nothing (readsSeen h s)
 
 -- what such a panel has of the slot's chain after its reads, however many it has made; that it makes another while bytes remain is its own
 -- doing, and not claimed

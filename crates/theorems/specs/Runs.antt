@@ -112,8 +112,8 @@ boxShows said h = record {
   said = said;
   whose = h .state .awaited .whose;
   answerLength = h .state .awaited .length;
-  prefix = prefixOf (h .state .awaited .whose);
-  hashed = toHash (h .state .awaited .whose) (partsIn (h .state .used) (h .transcript));
+  prefix = prefixOf (h .state .negotiated) (h .state .awaited .whose);
+  hashed = toHash (h .state .negotiated) (h .state .awaited .whose) (partsIn (h .state .used) (h .transcript));
   negotiated = h .state .negotiated;
   parts = partsIn (h .state .used) (h .transcript);
 }

@@ -23,7 +23,7 @@ pub fn find(s: &[u8], from: usize, b: u8) -> usize {
 }
 
 // The bytes from a place up to an end.
-fn between(s: &[u8], from: usize, end: usize) -> &[u8] {
+pub fn between(s: &[u8], from: usize, end: usize) -> &[u8] {
     if end <= from {
         return wire::part_of(s, 0, 0);
     }

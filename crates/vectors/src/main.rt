@@ -3,6 +3,7 @@ mod fields;
 mod images;
 mod program;
 mod runs;
+mod signed;
 mod text;
 mod words;
 mod writer;
@@ -44,10 +45,12 @@ struct Progress {
     // how many results there were, and how many of them agree
     results: usize,
     agree: usize,
-    // of a run of calls: where its lines start, the length of its transcript buffer, where what the last call gave ends, and its state
+    // of a run of calls: where its lines start, the length of its transcript buffer, where what the last call gave ends, whether what is to
+    // be signed is due as well, and its state
     first: usize,
     room: usize,
     given: usize,
+    due: bool,
     state: State,
 }
 
@@ -60,6 +63,7 @@ fn before_first() -> Progress {
         first: 0,
         room: 0,
         given: 0,
+        due: false,
         state: state::fresh(),
     }
 }

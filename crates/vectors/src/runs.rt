@@ -1,4 +1,5 @@
-// Runs of calls: a line has an image, the transcript buffer, the state, a request, a finishing, or what the last of these two is to give.
+// Runs of calls: a line has an image, the transcript buffer, the state, a request, a finishing, what the last of these two is to give, or
+// what is then to be signed.
 use crate::FILL;
 use crate::IMAGE;
 use crate::MESSAGE;
@@ -12,13 +13,14 @@ use crate::fields::line_at;
 use crate::fields::more;
 use crate::fields::number;
 use crate::fields::word;
+use crate::signed::put_signed;
 use crate::text::put;
 use crate::text::put_changed;
 use crate::text::put_checksum;
 use crate::text::put_decimal;
 use crate::text::put_hex;
 use crate::words::awaited_length;
-use crate::words::awaits_now;
+use crate::words::awaits;
 use crate::words::put_state;
 use crate::words::state_of;
 use rules::Outcome;
@@ -30,7 +32,7 @@ const NONCE: usize = 64;
 // A run has at most so many images, the first of its lines.
 const IMAGES: usize = 64;
 
-// How the bytes go up of an awaited answer that a run begins with, and those of its transcript buffer.
+// How the bytes go up of an answer that a state is handed in as awaiting, and those of the transcript buffer.
 const ANSWER_STEP: u8 = 5;
 
 const TRANSCRIPT_STEP: u8 = 13;
@@ -73,7 +75,7 @@ fn take_transcript(line: &[u8], p: Progress, transcript: &mut [u8; TRANSCRIPT]) 
     next
 }
 
-// S words: the state.
+// S words: the state, at any place of a run.
 fn take_state(line: &[u8], p: Progress, awaited: &mut [u8; MESSAGE]) -> Progress {
     fill(awaited, 0, ANSWER_STEP);
     let state = state_of(line);
@@ -96,6 +98,14 @@ fn answer_length(reply: Reply) -> usize {
         Reply::Number(_n) => 0,
         Reply::Answer(n) => n,
     }
+}
+
+// Whether a line H is due after a call: it gave no number, and a signature is awaited.
+fn due(reply: Reply, state: State) -> bool {
+    if host_number(reply) != 0 {
+        return false;
+    }
+    awaits(state)
 }
 
 // What a call gave, as the vectors have it.
@@ -125,6 +135,7 @@ fn after_call(
     transcript: &[u8],
     text: &mut [u8; TEXT],
 ) -> Progress {
+    let reply = o.reply;
     let state = o.state;
     let mut next = p;
     next.given = put_given(
@@ -135,12 +146,16 @@ fn after_call(
         wire::part_of(transcript, 0, p.room),
     );
     next.state = state;
+    next.due = due(reply, state);
     next
 }
 
 // An answer that awaits its signature since a call is kept.
 fn keep(before: State, after: State, answer: &[u8; MESSAGE], awaited: &mut [u8; MESSAGE]) {
-    if awaits_now(before, after) {
+    if awaits(before) {
+        return;
+    }
+    if awaits(after) {
         wire::copy_into(awaited, 0, answer);
     }
 }
@@ -226,6 +241,27 @@ fn take_call(
     take_request(line, p, image, transcript, awaited, text)
 }
 
+// = number answer words crc: what the last call is to give. Where the line H that is due does not follow, a word more comes out.
+fn take_given(file: &[u8], line: &[u8], p: Progress, text: &mut [u8; TEXT]) -> Progress {
+    let below = line_at(file, more(find(file, p.at, b'\n')));
+    let mut end = p.given;
+    if p.due && wire::byte_at(below, 0) != b'H' {
+        end = put(text, end, b" H");
+    }
+    agreed(line, 1, p, text, end)
+}
+
+// H prefix_len hash_len crc: what is to be signed after a call; where it is not due, nothing comes out.
+fn take_signed(line: &[u8], p: Progress, transcript: &[u8], text: &mut [u8; TEXT]) -> Progress {
+    let mut end = 0;
+    if p.due {
+        end = put_signed(text, p.state, wire::part_of(transcript, 0, p.room));
+    }
+    let mut next = agreed(line, 1, p, text, end);
+    next.due = false;
+    next
+}
+
 // A line of a run. Any that has no other letter is what the last call is to give.
 pub fn take_line(
     file: &[u8],
@@ -240,6 +276,7 @@ pub fn take_line(
         b'T' => take_transcript(line, p, transcript),
         b'S' => take_state(line, p, awaited),
         b'R' | b'F' => take_call(file, line, p, transcript, awaited, text),
-        _ => agreed(line, 1, p, text, p.given),
+        b'H' => take_signed(line, p, transcript, text),
+        _ => take_given(file, line, p, text),
     }
 }

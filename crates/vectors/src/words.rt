@@ -6,6 +6,7 @@ use rules::Awaited;
 use rules::Negotiated;
 use rules::State;
 use rules::Used;
+use rules::limits::AWAITS_NOTHING;
 
 // S words: the state.
 pub fn state_of(line: &[u8]) -> State {
@@ -14,6 +15,7 @@ pub fn state_of(line: &[u8]) -> State {
             phase: number(line, 1),
             peer: number(line, 2),
             selection: number(line, 3),
+            edition: number(line, 9),
         },
         used: Used {
             a: number(line, 4),
@@ -38,14 +40,14 @@ pub fn put_state(text: &mut [u8; TEXT], at: usize, s: State) -> usize {
     let b = put_word(text, a, u.b);
     let m = put_word(text, b, u.m);
     let whose = put_word(text, m, w.whose);
-    put_word(text, whose, w.length)
+    let length = put_word(text, whose, w.length);
+    put_word(text, length, n.edition)
 }
 
-// Whether a signature is awaited since a call.
-pub fn awaits_now(before: State, after: State) -> bool {
-    let old = before.awaited;
-    let new = after.awaited;
-    old.whose < new.whose
+// Whether a signature is awaited.
+pub fn awaits(s: State) -> bool {
+    let w = s.awaited;
+    w.whose != AWAITS_NOTHING
 }
 
 // The length of the awaited answer.

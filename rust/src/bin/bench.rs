@@ -72,6 +72,8 @@ fn processor_time() -> Duration {
     Duration::new(time.seconds as u64, time.nanoseconds as u32)
 }
 
+type State = [u32; plain::STATE_WORDS];
+
 /// A side's buffers. They begin a page, so that they lie alike for every side: a copy whose two places are the same in
 /// their pages is slower.
 #[repr(C, align(4096))]
@@ -79,7 +81,7 @@ fn processor_time() -> Duration {
 struct Buffers {
     transcript: [u8; plain::TRANSCRIPT],
     answer: [u8; plain::MAX_MESSAGE],
-    state: [u32; plain::STATE_WORDS],
+    state: State,
 }
 
 impl Buffers {
@@ -132,7 +134,7 @@ impl Provisioning {
 /// One step of a piece of work.
 enum Step {
     /// Go back to this state.
-    State([u32; 8]),
+    State(State),
     Respond(Vec<u8>),
     Finish,
 }
@@ -180,24 +182,30 @@ impl Work {
     }
 }
 
-fn handshake(peer_size: u32) -> Vec<Step> {
-    let mut capabilities = vec![0x12, 0xE1];
+/// GET_VERSION, then GET_CAPABILITIES of the edition whose byte is `version`, which goes on with `sizes`, and
+/// NEGOTIATE_ALGORITHMS.
+fn handshake_of(version: u8, sizes: &[u8]) -> Vec<Step> {
+    let mut capabilities = vec![version, 0xE1];
     capabilities.resize(12, 0);
-    capabilities.extend(peer_size.to_le_bytes());
-    capabilities.extend(peer_size.to_le_bytes());
-    let mut algorithms = vec![0x12, 0xE3, 0, 0, 32, 0, 1, 0, 0x10, 0, 0, 0, 1, 0, 0, 0];
+    capabilities.extend(sizes);
+    let mut algorithms = vec![version, 0xE3, 0, 0, 32, 0, 1, 0, 0x10, 0, 0, 0, 1, 0, 0, 0];
     algorithms.resize(32, 0);
     vec![Step::Respond(vec![0x10, 0x84, 0, 0]), Step::Respond(capabilities), Step::Respond(algorithms)]
 }
 
+/// That of 1.2, as all work but one is.
+fn handshake(peer_size: u32) -> Vec<Step> {
+    handshake_of(0x12, [peer_size.to_le_bytes(); 2].as_flattened())
+}
+
 /// A negotiated state without measurements, which every image allows.
-fn negotiated(peer_size: u32) -> [u32; 8] {
-    [3, peer_size, 0, 52 + 32 + 36, 0, 0, 0, 0]
+fn negotiated(peer_size: u32) -> State {
+    [3, peer_size, 0, 54 + 32 + 36, 0, 0, 0, 0, 0x12]
 }
 
 /// The same with measurements.
-fn measuring() -> [u32; 8] {
-    [3, 4_608, 1, 52 + 32 + 36, 0, 0, 0, 0]
+fn measuring() -> State {
+    [3, 4_608, 1, 54 + 32 + 36, 0, 0, 0, 0, 0x12]
 }
 
 /// Reads of slot 3 from its start to its end, `portion` bytes at a time.
@@ -247,7 +255,7 @@ fn work(name: &str, on: Provisioning, steps: Vec<Step>, calls: usize) -> Work {
 }
 
 fn works(digests: usize) -> Vec<Work> {
-    let from = |state: [u32; 8], steps: Vec<Step>| {
+    let from = |state: State, steps: Vec<Step>| {
         let mut all = vec![Step::State(state)];
         all.extend(steps);
         all
@@ -264,6 +272,7 @@ fn works(digests: usize) -> Vec<Work> {
     let mut all = vec![
         work("GET_DIGESTS", FULL, get_digests(), digests),
         work("handshake", FULL, handshake(4_608), fifth),
+        work("handshake of 1.1", FULL, handshake_of(0x11, &[]), fifth),
         work("chain by 34", FULL, from(negotiated(42), reads(34)), fifth),
         work("chain by 1024", FULL, from(negotiated(4_608), reads(1_024)), fifth),
         work("refusals", FULL, from(measuring(), refusals()), fifth),

@@ -21,16 +21,16 @@ kind-steps-spec =
     (λ c κs. search needs)
     (λ c κs. search needs)
     (λ c.
-    let version : tie.After-version-for = search in let served : tie.After-serves-kind = search in
-    rw (c .refused2 .ensures, ← served .serves-kind .ensures _, ← version .version-for .ensures) (search (picks, not-true, not-false) depth 12))
+    let version : tie.After-version-fits = search in let served : tie.After-serves-kind = search in
+    rw (c .refused2 .ensures, ← served .serves-kind .ensures _, ← version .version-fits .ensures) (search (picks, not-true, not-false) depth 12))
     (λ c κs. search needs)
     (λ c κs. search needs)
     (λ c.
-    let phase : tie.After-in-phase = search in let version : tie.After-version-for = search in let served : tie.After-serves-kind = search in
-    rw (c .refused3 .ensures, ← served .serves-kind .ensures _, ← version .version-for .ensures, ← phase .in-phase .ensures)
+    let phase : tie.After-in-phase = search in let version : tie.After-version-fits = search in let served : tie.After-serves-kind = search in
+    rw (c .refused3 .ensures, ← served .serves-kind .ensures _, ← version .version-fits .ensures, ← phase .in-phase .ensures)
     (search (picks, not-true, not-false) depth 12))
     (λ c κs. search needs)
     (λ c.
-    let phase : tie.After-in-phase = search in let version : tie.After-version-for = search in let served : tie.After-serves-kind = search in
-    rw (c .last-steps .ensures, ← served .serves-kind .ensures _, ← version .version-for .ensures, ← phase .in-phase .ensures)
+    let phase : tie.After-in-phase = search in let version : tie.After-version-fits = search in let served : tie.After-serves-kind = search in
+    rw (c .last-steps .ensures, ← served .serves-kind .ensures _, ← version .version-fits .ensures, ← phase .in-phase .ensures)
     (search (picks, not-true, not-false) depth 12)))

@@ -9,7 +9,7 @@ pub invalid-slots-spec : {M : Type 1} → statement M
 invalid-slots-spec =
     tie.close
     (tie.spec
-    (λ image transcript₀ answer₀ mask after₀ slot₀ transcript answer after slot. Unit {0})
-    (λ image transcript₀ answer₀ mask after₀ slot₀ transcript answer after slot. 16 - slot)
+    (λ image transcript₀ answer₀ mask peer after₀ slot₀ transcript answer after slot. Unit {0})
+    (λ image transcript₀ answer₀ mask peer after₀ slot₀ transcript answer after slot. 16 - slot)
     (λ c. search needs) (λ c κs. search needs) (λ c κs. search needs) (λ c. search needs) (λ c. search needs)
     (λ c. search needs) (λ c κs. search needs) (λ c. search needs))

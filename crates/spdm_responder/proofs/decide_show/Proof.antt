@@ -16,4 +16,7 @@ decide-show-spec =
     (λ c κs. search needs)
     (λ c. let bounds : tie.After-own-bounds = search in rw (← bounds .own-bounds .ensures) (search (picks, not-true, not-false) depth 16))
     (λ c. let bounds : tie.After-own-bounds = search in rw (← bounds .own-bounds .ensures) (search (picks, not-true, not-false) depth 16))
-    (λ c. let bounds : tie.After-own-bounds = search in rw (← bounds .own-bounds .ensures) (search (picks, not-true, not-false) depth 16)))
+    (λ c κs. search needs)
+    (λ c.
+    let bounds : tie.After-own-bounds = search in
+    rw (c .prefix-shown .ensures, ← bounds .own-bounds .ensures) (search (picks, not-true, not-false) depth 16)))

@@ -1,4 +1,4 @@
--- Eight stores into eight words leave nothing of what stood there; any other number of words is not touched. Assumes nothing.
+-- Nine stores into nine words leave nothing of what stood there; any other number of words is not touched. Assumes nothing.
 use lib.ListN.{length-set}
 use native.Mathlib.Omega.{arith}
 use borrow.Author.Tests.{eq-eqb}
@@ -24,6 +24,7 @@ put-state-spec =
     (λ c. simp length-set (omega arith))
     (λ c. simp length-set (omega arith))
     (λ c. simp length-set (omega arith))
-    (λ c. search needs)
-    (λ c. let eight : tie.Else1 = search in let start : tie.Start = search in let e = eight .if1 .left in
+    (λ c. simp length-set (omega arith))
+    (λ c. search needs depth 12)
+    (λ c. let nine : tie.Else1 = search in let start : tie.Start = search in let e = nine .if1 .left in
     pick-yes _ _ _ _ (eq-eqb _ _ e) (all-stored (start .args .words .now) (wordsOf (start .args .s)) e)))

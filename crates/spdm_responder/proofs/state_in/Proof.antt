@@ -1,4 +1,4 @@
--- The number of words decides: eight are read one by one, any other number is the state out of bounds. Assumes nothing.
+-- The number of words decides: nine are read one by one, any other number is the state out of bounds. Assumes nothing.
 use Rattle.wire.proofs.Picks.{picks}
 use Rattle.spdm_responder.specs.Words.{stateIn}
 use borrow.Author.Needs.{needs}
@@ -12,6 +12,7 @@ state-in-spec =
     (tie.spec
     (λ c κs. search needs)
     (λ c. rw (c .no-state .ensures) (search picks depth 8))
+    (λ c. search needs)
     (λ c. search needs)
     (λ c. search needs)
     (λ c. search needs)

@@ -1,4 +1,4 @@
--- What is awaited decides which four words are written, as in the definition. Assumes nothing.
+-- What is awaited, and the edition, decide which four words are written, as in the definition. Assumes nothing.
 use mathlib.Core.List.{[]}
 use mathlib.Core.Path.{ap, _∙_}
 use Rattle.wire.specs.Bytes.{splice}
@@ -23,8 +23,11 @@ write-parts-spec =
     (λ c. search needs)
     (λ c. let four : tie.After-write-four = search in four .write-four .ensures ∙ ap (splice _ 0) (search picks depth 8))
     (λ c. search needs)
+    (λ c κs. search needs)
     (λ c. search needs)
     (λ c κs. search needs)
     (λ c. search needs)
-    (λ c. let four : tie.After-write-four2 = search in four .write-four2 .ensures ∙ ap (splice _ 0) (search picks depth 8))
+    (λ c.
+    let four : tie.After-write-four2 = search in let before : tie.After-used-before-m = search in
+    four .write-four2 .ensures ∙ rw (before .used-before-m .ensures) (ap (splice _ 0) (search picks depth 8)))
     nothing)

@@ -20,4 +20,12 @@ own-bounds-spec =
     (λ c κs. search needs)
     (λ c. let selection : tie.After-selection-fits = search in let phase : tie.After-phase-fits = search in rw (← phase .phase-fits .ensures, ← selection .selection-fits .ensures) (search (picks, not-true, not-false) depth 16))
     (λ c κs. search needs)
-    (λ c. let selection : tie.After-selection-fits = search in let phase : tie.After-phase-fits = search in rw (← phase .phase-fits .ensures, ← selection .selection-fits .ensures, ← c .awaited-fits .ensures, ← last-test) (search (picks, not-true, not-false) depth 16)))
+    (λ c.
+    let awaited : tie.After-awaited-fits = search in let selection : tie.After-selection-fits = search in let phase : tie.After-phase-fits = search in
+    rw (← phase .phase-fits .ensures, ← selection .selection-fits .ensures, ← awaited .awaited-fits .ensures)
+    (search (picks, not-true, not-false) depth 16))
+    (λ c κs. search needs)
+    (λ c.
+    let awaited : tie.After-awaited-fits = search in let selection : tie.After-selection-fits = search in let phase : tie.After-phase-fits = search in
+    rw (← phase .phase-fits .ensures, ← selection .selection-fits .ensures, ← awaited .awaited-fits .ensures, ← c .edition-fits .ensures, ← last-test)
+    (search (picks, not-true, not-false) depth 18)))

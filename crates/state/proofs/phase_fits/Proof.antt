@@ -16,5 +16,6 @@ phase-fits-spec =
     (λ c. rw (c .holds-only2 .ensures) (search picks depth 16))
     (λ c. search picks depth 16)
     (λ c κs. search needs)
-    (λ c. rw (c .holds-only3 .ensures) (search picks depth 16))
+    (λ c κs. search needs)
+    (λ c. let used : tie.After-capabilities-used = search in rw (c .holds-only3 .ensures, used .capabilities-used .ensures) (search picks depth 16))
     (λ c. search picks depth 16))

@@ -1,4 +1,5 @@
 -- The tests are made in the definition's order, so the tests that led to each return pick its case. Assumes nothing.
+use borrow.Author.Tests.{not-true, not-false}
 use Rattle.wire.proofs.Picks.{picks}
 use Rattle.rules.specs.Capabilities.{capabilitiesDecision}
 use borrow.Author.Needs.{needs}
@@ -11,18 +12,30 @@ decide-capabilities-spec =
     tie.close
     (tie.spec
     (λ c κs. search needs)
-    (λ c. rw (c .invalid-request .ensures) (search picks depth 12))
-    (λ c κs. search needs)
-    (λ c κs. search needs)
-    (λ c. let peer : tie.After-get-u32le = search in rw (c .invalid-request2 .ensures, ← peer .get-u32le .ensures) (search picks depth 12))
     (λ c κs. search needs)
     (λ c κs. search needs)
     (λ c.
-    let most : tie.After-get-u32le2 = search in let peer : tie.After-get-u32le = search in
-    rw (c .invalid-request3 .ensures, ← most .get-u32le2 .ensures, ← peer .get-u32le .ensures) (search picks depth 12))
+    let layout : tie.After-capabilities-layout = search in let version : tie.After-byte-at = search in
+    rw (c .invalid-request .ensures, ← version .byte-at .ensures, ← layout .capabilities-layout .ensures) (search picks depth 12))
     (λ c κs. search needs)
     (λ c κs. search needs)
     (λ c.
-    let made : tie.After-complete = search in let fresh : tie.After-fresh = search in
-    let most : tie.After-get-u32le2 = search in let peer : tie.After-get-u32le = search in
-    rw (made .complete .ensures, fresh .fresh .ensures, ← most .get-u32le2 .ensures, ← peer .get-u32le .ensures) (search picks depth 12)))
+    let fit : tie.After-sizes-fit = search in let layout : tie.After-capabilities-layout = search in let version : tie.After-byte-at = search in
+    rw (c .invalid-request2 .ensures, ← version .byte-at .ensures, ← layout .capabilities-layout .ensures, ← fit .sizes-fit .ensures)
+    (search (picks, not-true, not-false) depth 12))
+    (λ c κs. search needs)
+    (λ c κs. search needs)
+    (λ c. search needs)
+    (λ c κs. search needs)
+    (λ c.
+    let made : tie.After-complete = search in let peer : tie.After-peer-asked = search in let fresh : tie.After-fresh = search in
+    let fit : tie.After-sizes-fit = search in let layout : tie.After-capabilities-layout = search in let version : tie.After-byte-at = search in
+    rw (
+      made .complete .ensures,
+      fresh .fresh .ensures,
+      peer .peer-asked .ensures,
+      ← version .byte-at .ensures,
+      ← layout .capabilities-layout .ensures,
+      ← fit .sizes-fit .ensures,
+    )
+    (search (picks, not-true, not-false) depth 12)))

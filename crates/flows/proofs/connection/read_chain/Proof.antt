@@ -9,8 +9,8 @@ pub read-chain-spec : {M : Type 1} → statement M
 read-chain-spec =
     tie.close
     (tie.spec
-    (λ image transcript₀ answer₀ slot after₀ k₀ t9 transcript answer after k. Unit {0})
-    (λ image transcript₀ answer₀ slot after₀ k₀ t9 transcript answer after k. 4 - k)
+    (λ image transcript₀ answer₀ peer after₀ k₀ t9 transcript answer after k. Unit {0})
+    (λ image transcript₀ answer₀ peer after₀ k₀ t9 transcript answer after k. 4 - k)
     (λ c. search needs) (λ c. search needs) (λ c. search needs) (λ c. search needs) (λ c. search needs)
     (λ c. search needs) (λ c κs. search needs) (λ c κs. search needs) (λ c. search needs) (λ c. search needs)
     (λ c. search needs) (λ c. search needs) (λ c. search needs))

@@ -10,7 +10,7 @@ pub run-spec : {M : Type 1} → statement M
 run-spec =
     tie.close
     (tie.spec
-    (λ image transcript₀ answer₀ codes slot summary after₀ i₀ transcript answer after i. Unit {0})
-    (λ image transcript₀ answer₀ codes slot summary after₀ i₀ transcript answer after i. length codes - i)
+    (λ image transcript₀ answer₀ codes peer after₀ i₀ transcript answer after i. Unit {0})
+    (λ image transcript₀ answer₀ codes peer after₀ i₀ transcript answer after i. length codes - i)
     (λ c. search needs) (λ c. search needs) (λ c κs. search needs) (λ c. search needs) (λ c. search needs)
     (λ c. search needs) (λ c. search needs))
