@@ -215,6 +215,21 @@ static uint8_t version_byte(const uint32_t *state)
     return state[SPDM_STATE_PHASE] < 2 ? 0x10 : (uint8_t)state[SPDM_STATE_EDITION];
 }
 
+// The limits before longer chains.
+enum { OLD_IMAGE_MAX = 36864, OLD_CHAIN_MAX = 4096, OLD_B_LIMIT = 8192 };
+
+// An answer for an image, with a portion or with a B that would not have been before.
+static void count_long(struct driver *driver, bool appended)
+{
+    const struct world *now = &driver->world, *before = &driver->before;
+    const unsigned offset = before->request[4] | (unsigned)before->request[5] << 8;
+    const unsigned portion = now->answer[4] | (unsigned)now->answer[5] << 8;
+    struct counts *counts = &driver->counts;
+    counts->large_image += before->image_length > OLD_IMAGE_MAX;
+    counts->late_read += appended && now->answer[1] == 0x02 && offset + portion > OLD_CHAIN_MAX;
+    counts->long_b += appended && now->state[SPDM_STATE_B] > OLD_B_LIMIT;
+}
+
 // Demand 1, without any model: a number changes nothing, an ERROR only its own bytes and M's count, an answer only its
 // own. Finishing's ERROR has 4 bytes, and no other answer of it so few.
 static void demand_rules(struct driver *driver, uint32_t result, bool finishing)
@@ -235,6 +250,7 @@ static void demand_rules(struct driver *driver, uint32_t result, bool finishing)
     demand(driver, (finishing && length > 4) || now->answer[0] == version_byte(now->state), "a wrong version byte");
     if (now->state[SPDM_STATE_EDITION] == SPDM_EDITION_1_1)
         driver->counts.older++;
+    count_long(driver, !finishing && now->answer[1] != 0x7F);
     if (!finishing && now->answer[1] == 0x7F) {
         demand_refusal(driver);
         driver->counts.errors++;

@@ -7,7 +7,8 @@
 #include <string.h>
 #include <unistd.h>
 
-enum { STEP_LIMIT = 64 };
+// READ_LIMIT: the longest chain in portions of 34 bytes.
+enum { STEP_LIMIT = 64, READ_LIMIT = 482 };
 
 static void step_request(struct driver *driver, struct feed *feed, unsigned kind, unsigned places)
 {
@@ -54,10 +55,10 @@ static void step_negotiate(struct driver *driver, struct feed *feed, unsigned pl
 // Reads a chain from its start, as the second half of demand 3 has it.
 static void step_read_chain(struct driver *driver, struct feed *feed, unsigned places)
 {
-    const unsigned length = 34 + next(feed) * 4;
+    const unsigned length = 34 + (next(feed) % 16 ? next(feed) * 4 : 0);
     unsigned offset = 0;
     right_lengths(&driver->world);
-    for (unsigned i = 0; i < 130; i++) {
+    for (unsigned i = 0; i < READ_LIMIT; i++) {
         write_read(&driver->world, offset, length);
         call_respond(driver, places);
         const uint8_t *answer = driver->world.answer;
@@ -218,8 +219,10 @@ int main(int count, char **words)
         run_input(&seed);
     const struct counts *counts = &the_driver()->counts;
     printf("fuzz: seed %llu, %lu inputs, %lu calls (%lu numbers, %lu ERRORs, %lu accepted, %lu finished; "
-        "%lu answers under 1.1), no finding\n", (unsigned long long)start, counts->inputs, counts->calls,
-        counts->numbers, counts->errors, counts->accepted, counts->finished, counts->older);
+        "%lu answers under 1.1; %lu with an image over 36,864 bytes, %lu from a chain's bytes past 4,096, "
+        "%lu that make B longer than 8,192), no finding\n", (unsigned long long)start, counts->inputs, counts->calls,
+        counts->numbers, counts->errors, counts->accepted, counts->finished, counts->older, counts->large_image,
+        counts->late_read, counts->long_b);
     return 0;
 }
 

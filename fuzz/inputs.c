@@ -1,8 +1,12 @@
 #include "inputs.h"
 
 #include "plain.h"
+#include "spdm_responder.h"
 
 #include <string.h>
+
+// The most that B holds, and M.
+enum { B_LIMIT = 28672, M_LIMIT = 7680 };
 
 unsigned next(struct feed *feed)
 {
@@ -40,10 +44,12 @@ struct shape {
     uint16_t chain_extra;
 };
 
-// From the smallest image to the largest one of the table: eight chains, 32 measurements.
+// From the smallest image to the largest, 61,440 bytes; the last but one has three of the longest chains, 16,384 bytes.
 static const struct shape good_shapes[] = {
     {14, 0, 4, 1, 1, 0, 1, 0}, {14, 0, 4, 1, 1, 1, 1, 63}, {14, 0, 4, 1, 1, 3, 2, 900}, {31, 1, 7, 3, 2, 5, 40, 700},
     {0, 2, 8, 8, 1, 32, 7, 64}, {9, 2, 6, 8, 1, 32, 7, 4027}, {3, 3, 0, 2, 7, 32, 1, 4059}, {7, 5, 5, 4, 2, 0, 1, 2000},
+    {14, 0, 4, 1, 1, 1, 1, 14000}, {5, 0, 4, 1, 1, 2, 1, 16347}, {2, 2, 7, 3, 2, 32, 7, 16315},
+    {14, 2, 8, 7, 1, 32, 7, 8305},
 };
 
 enum { GOOD_SHAPES = sizeof good_shapes / sizeof good_shapes[0] };
@@ -101,9 +107,10 @@ static void build_image(struct world *world, const struct shape *shape)
     }
 }
 
-// A shape of the input's own choice, mostly a valid one.
+// A shape of the input's own choice, mostly a valid one: chains up to a few bytes over 16 KB, or 56 KB of them.
 static struct shape next_shape(struct feed *feed)
 {
+    const unsigned longest = SPDM_CHAIN_MAX - 32, all = 57344;
     struct shape shape = {0};
     shape.ct_exponent = (uint8_t)(next(feed) % 33);
     shape.hash = (uint8_t)(next(feed) % 6);
@@ -112,20 +119,22 @@ static struct shape next_shape(struct feed *feed)
     shape.slot_step = shape.chains > 4 ? 1 : (uint8_t)(1 + next(feed) % 2);
     shape.measurements = (uint8_t)(next(feed) % 34);
     shape.index_step = (uint8_t)(1 + next(feed) % 7);
-    shape.chain_extra = (uint16_t)(next_16(feed) % 4064);
+    shape.chain_extra = (uint16_t)(next_16(feed) % (shape.chains > 3 ? all / shape.chains : longest));
     return shape;
 }
 
 void choose_image(struct world *world, struct feed *feed)
 {
+    // Nine chains, 33 measurements, a wrong field, no chain; a chain of 16,385 bytes, an image of 61,441.
     static const struct shape bad_shapes[] = {
         {14, 1, 7, 9, 1, 2, 1, 10}, {14, 4, 3, 8, 1, 33, 1, 20}, {32, 0, 4, 1, 1, 1, 1, 1}, {1, 0, 4, 0, 1, 1, 1, 1},
+        {14, 0, 4, 1, 1, 1, 1, 16348}, {14, 2, 8, 5, 1, 32, 7, 11682},
     };
     const unsigned choice = next(feed);
     if (choice < 160) {
         build_image(world, &good_shapes[choice % GOOD_SHAPES]);
     } else if (choice < 170) {
-        build_image(world, &bad_shapes[choice % 4]);
+        build_image(world, &bad_shapes[choice % (sizeof bad_shapes / sizeof bad_shapes[0])]);
     } else if (choice < 230) {
         const struct shape shape = next_shape(feed);
         build_image(world, &shape);
@@ -279,10 +288,12 @@ static void write_algorithms(struct world *world, struct feed *feed)
 static void write_certificate(struct world *world, struct feed *feed)
 {
     static const uint16_t lengths[] = {34, 1024, 0xFFFF, 1, 0, 1025, 100, 4096};
+    static const uint16_t offsets[] = {0, 4095, 4096, 15360, 16350, 16383, 16384, 16385};
     uint8_t text[8] = {spoken(world), 0x82, (uint8_t)next(feed)};
     if (next(feed) % 4)
         text[2] = 0;
-    put_16(text + 4, next(feed) % 2 ? 0 : next_16(feed) % 4200);
+    const unsigned choice = next(feed) % 4;
+    put_16(text + 4, choice > 1 ? 0 : choice == 1 ? ONE_OF(feed, offsets) : next_16(feed) % (SPDM_CHAIN_MAX + 100));
     put_16(text + 6, ONE_OF(feed, lengths));
     set_request(world, text, sizeof text);
 }
@@ -389,7 +400,7 @@ void choose_lengths(struct world *world, struct feed *feed)
     struct feed *from = odd ? feed : &none;
     world->words = length_near(from, STATE_WORDS, WORDS_ROOM);
     world->answer_length = length_near(from, 4608, ANSWER_ROOM);
-    world->transcript_length = length_near(from, 16384, TRANSCRIPT_ROOM);
+    world->transcript_length = length_near(from, SPDM_TRANSCRIPT_MIN, TRANSCRIPT_ROOM);
     world->nonce_length = length_near(from, 32, SMALL_ROOM);
     world->signature_length = length_near(from, signature_size(world), SMALL_ROOM);
     world->prefix_length = length_near(from, 100, SMALL_ROOM);
@@ -407,7 +418,7 @@ void poke_state(struct world *world, struct feed *feed)
 {
     static const uint32_t values[] = {
         0, 1, 2, 3, 4, 14, 16, 17, 18, 19, 38, 41, 42, 54, 68, 69, 100, 512, 513, 516, 4607, 4608, 4609, 7600, 7680,
-        7681, 8100, 8192, 8193, 0x80000000, 0xFFFFFFFF,
+        7681, 8192, 8193, 28600, B_LIMIT, B_LIMIT + 1, 0x80000000, 0xFFFFFFFF,
     };
     const unsigned word = next(feed) % STATE_WORDS;
     world->state[word] = next(feed) % 8 ? ONE_OF(feed, values) : next_32(feed);
@@ -422,8 +433,8 @@ void full_state(struct world *world, struct feed *feed)
     world->state[PEER] = world->state[EDITION] == EDITION_1_1 ? 4608 : ONE_OF(feed, sizes);
     world->state[SELECTION] = next(feed) & 1;
     world->state[A] = next_16(feed) % 513;
-    world->state[B] = 8192 - next(feed) * 8;
-    world->state[M] = 7680 - next(feed) * 8;
+    world->state[B] = B_LIMIT - next(feed) * 8;
+    world->state[M] = M_LIMIT - next(feed) * 8;
     if (next(feed) % 4 == 0) {
         world->state[AWAITED] = 1 + next(feed) % 2;
         world->state[ANSWER] = 4 + next_16(feed) % 4700;

@@ -7,8 +7,8 @@
 #include <stdint.h>
 
 enum {
-    IMAGE_ROOM = 40960,
-    TRANSCRIPT_ROOM = 20480,
+    IMAGE_ROOM = 65536,
+    TRANSCRIPT_ROOM = 40960,
     ANSWER_ROOM = 8192,
     REQUEST_ROOM = 8192,
     SMALL_ROOM = 4096,

@@ -57,6 +57,9 @@ static void ninth_chain(struct stage *stage)
         "an image with nine chains gets number 5");
 }
 
+// What a host had for the transcript before longer chains.
+enum { OLD_TRANSCRIPT_SIZE = 16384 };
+
 // A call of the library as a careless host would make it.
 struct lent {
     size_t state, answer, transcript, nonce, signature;
@@ -100,13 +103,15 @@ static void refuse_finish(struct stage *stage, struct lent lent, uint32_t number
 // One fault at a time.
 static void refuse_short_buffers(struct stage *stage, struct lent right, struct bytes request)
 {
-    struct lent short_answer = right, short_transcript = right, short_nonce = right, short_state = right;
+    struct lent short_answer = right, short_transcript = right, short_nonce = right, short_state = right, old = right;
     short_answer.answer--;
     short_transcript.transcript--;
+    old.transcript = OLD_TRANSCRIPT_SIZE;
     short_nonce.nonce--;
     short_state.state--;
     refuse_request(stage, short_answer, request, 11, "an answer buffer of 4,607 bytes");
-    refuse_request(stage, short_transcript, request, 12, "a transcript buffer of 16,383 bytes");
+    refuse_request(stage, short_transcript, request, 12, "a transcript buffer of 36,863 bytes");
+    refuse_request(stage, old, request, 12, "one of 16,384 bytes, as before longer chains,");
     refuse_request(stage, short_nonce, request, 13, "a nonce of 31 bytes");
     refuse_request(stage, short_state, request, 14, "a state of 8 words, as before 1.1 was served,");
 }
@@ -152,6 +157,7 @@ static void refuse_careless_host(struct stage *stage)
     refuse_finish(stage, short_signature, 16, "a signature one byte short");
     show_check(stage->show, SPDM_NUMBER(careless_finish(box, right)) == 0, "the whole signature is taken");
     refuse_state(stage, right, request, SPDM_STATE_PHASE, 4, "a state with phase 4");
+    refuse_state(stage, right, request, SPDM_STATE_B, B_LIMIT + 1, "a state with 28,673 bytes of B");
     refuse_state(stage, right, request, SPDM_STATE_EDITION, 0, "a connected state with no edition");
     refuse_state(stage, right, request, SPDM_STATE_EDITION, EDITION_1_1, "1.1 with a peer's size of 4,607");
     memset(box->state, 0, sizeof box->state);

@@ -6,6 +6,8 @@
 #include <string.h>
 
 _Static_assert(STATE_WORDS == SPDM_STATE_WORDS && PREFIX_SIZE == SPDM_PREFIX_LEN, "as the library has it");
+_Static_assert(IMAGE_LIMIT == SPDM_IMAGE_MAX && CHAIN_LIMIT == SPDM_CHAIN_MAX, "as the library has it");
+_Static_assert(TRANSCRIPT_SIZE == SPDM_TRANSCRIPT_MIN && MESSAGE_LIMIT == SPDM_ANSWER_MIN, "as the library has it");
 _Static_assert(EDITION_1_1 == SPDM_EDITION_1_1 && EDITION_1_2 == SPDM_EDITION_1_2, "as the library has it");
 
 enum { KIND_IDENTITY = 1, KIND_CHAIN = 2, KIND_MEASUREMENT = 3, KIND_SUMMARIES = 4 };

@@ -6,8 +6,10 @@
 #include "terms.h"
 
 enum {
-    IMAGE_LIMIT = 36864,
-    TRANSCRIPT_SIZE = 16384,
+    IMAGE_LIMIT = 61440,
+    IMAGE_ROOM = IMAGE_LIMIT + 1, // more, so that an image can be too long
+    TRANSCRIPT_SIZE = 36864,
+    B_LIMIT = 28672,
     STATE_WORDS = 9,
     CT_EXPONENT = 14,
 };
@@ -21,7 +23,7 @@ struct box {
     const struct chip *chip;
     enum chip_conduct conduct;
     size_t image_length;
-    uint8_t image[IMAGE_LIMIT];
+    uint8_t image[IMAGE_ROOM];
     uint32_t state[STATE_WORDS];
     uint8_t transcript[TRANSCRIPT_SIZE];
     uint8_t answer[MESSAGE_LIMIT];

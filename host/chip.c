@@ -95,21 +95,44 @@ static bool add_extension(X509 *certificate, int kind, const char *value)
     return good;
 }
 
-static bool set_use(X509 *certificate, bool is_root)
+static bool set_use(X509 *certificate, bool signs)
 {
-    return add_extension(certificate, NID_basic_constraints, is_root ? "critical,CA:TRUE" : "critical,CA:FALSE")
-        && add_extension(certificate, NID_key_usage, is_root ? "critical,keyCertSign" : "critical,digitalSignature");
+    return add_extension(certificate, NID_basic_constraints, signs ? "critical,CA:TRUE" : "critical,CA:FALSE")
+        && add_extension(certificate, NID_key_usage, signs ? "critical,keyCertSign" : "critical,digitalSignature");
 }
 
-// A certificate for a key, signed by the maker; without an issuer it is the maker's own root.
-static X509 *certificate_for(const struct maker *maker, EVP_PKEY *key, const char *name, X509 *issuer)
+// A comment of so many characters, as suppliers put their terms into certificates; without any, none.
+static bool set_statement(X509 *certificate, size_t length)
+{
+    static const char words[] = "Certified under the supplier's practice statement. ";
+    char text[CHAIN_ROOM + 1] = "";
+    if (length == 0)
+        return true;
+    if (length >= sizeof text)
+        return false;
+    for (size_t i = 0; i < length; i++)
+        text[i] = words[i % (sizeof words - 1)];
+    return add_extension(certificate, NID_netscape_comment, text);
+}
+
+// Whose certificate it is, whether he signs others, and how long a statement it has.
+struct content {
+    const char *name;
+    bool signs;
+    size_t statement;
+};
+
+// A certificate for a key, signed by the maker's last authority; while he has none it is his root, signed by itself.
+static X509 *certificate_for(const struct maker *maker, EVP_PKEY *key, struct content content)
 {
     X509 *made = X509_new();
+    const X509 *issuer = maker->authority_count > 0 ? maker->authorities[maker->authority_count - 1] : made;
     bool good = made && X509_set_version(made, X509_VERSION_3) == 1
-        && set_serial(made) && set_dates(made) && set_name(made, name)
-        && X509_set_issuer_name(made, X509_get_subject_name(issuer ? issuer : made)) == 1
+        && set_serial(made) && set_dates(made) && set_name(made, content.name)
+        && X509_set_issuer_name(made, X509_get_subject_name(issuer)) == 1
         && X509_set_pubkey(made, key) == 1
-        && set_use(made, issuer == NULL)
+        && set_use(made, content.signs)
+        && set_statement(made, content.statement)
         && X509_sign(made, maker->key, hash_of(maker->suite)) > 0;
     if (good)
         return made;
@@ -120,26 +143,42 @@ static X509 *certificate_for(const struct maker *maker, EVP_PKEY *key, const cha
 static bool set_root_digest(struct maker *maker)
 {
     unsigned length = 0;
-    return X509_digest(maker->root, hash_of(maker->suite), maker->root_digest, &length) == 1
+    return X509_digest(maker->authorities[0], hash_of(maker->suite), maker->root_digest, &length) == 1
         && length == maker->suite->digest_size;
 }
 
 bool maker_start(struct maker *maker, const struct suite *suite, const char *name)
 {
-    maker->suite = suite;
-    maker->root = NULL;
-    maker->key = EVP_EC_gen(suite->curve);
+    *maker = (struct maker){.suite = suite, .key = EVP_EC_gen(suite->curve)};
     if (maker->key)
-        maker->root = certificate_for(maker, maker->key, name, NULL);
-    return maker->root && set_root_digest(maker);
+        maker->authorities[0] = certificate_for(maker, maker->key, (struct content){name, true, 0});
+    maker->authority_count = maker->authorities[0] != NULL;
+    return maker->authority_count == 1 && set_root_digest(maker);
 }
 
 void maker_end(struct maker *maker)
 {
-    X509_free(maker->root);
+    for (size_t i = 0; i < maker->authority_count; i++)
+        X509_free(maker->authorities[i]);
     EVP_PKEY_free(maker->key);
-    maker->root = NULL;
+    maker->authority_count = 0;
     maker->key = NULL;
+}
+
+bool maker_delegate(struct maker *maker, const char *name, size_t statement)
+{
+    EVP_PKEY *key = EVP_EC_gen(maker->suite->curve);
+    X509 *certificate = NULL;
+    if (key && maker->authority_count < AUTHORITY_LIMIT)
+        certificate = certificate_for(maker, key, (struct content){name, true, statement});
+    if (!certificate) {
+        EVP_PKEY_free(key);
+        return false;
+    }
+    maker->authorities[maker->authority_count++] = certificate;
+    EVP_PKEY_free(maker->key);
+    maker->key = key;
+    return true;
 }
 
 // Appends a certificate to the chain in DER.
@@ -153,14 +192,38 @@ static bool append_certificate(struct chain *chain, X509 *certificate)
     return i2d_X509(certificate, &at) == length;
 }
 
-bool maker_certify(const struct maker *maker, const struct chip *chip, const char *name, struct chain *chain)
+static bool certify(const struct maker *maker, const struct chip *chip, struct content content, struct chain *chain)
 {
-    X509 *leaf = certificate_for(maker, chip->key, name, maker->root);
+    X509 *leaf = certificate_for(maker, chip->key, content);
     memset(chain->bytes, 0, 4);
     memcpy(chain->bytes + 4, maker->root_digest, maker->suite->digest_size);
     chain->length = 4 + maker->suite->digest_size;
-    bool good = leaf && append_certificate(chain, maker->root) && append_certificate(chain, leaf);
+    bool good = leaf != NULL;
+    for (size_t i = 0; good && i < maker->authority_count; i++)
+        good = append_certificate(chain, maker->authorities[i]);
+    good = good && append_certificate(chain, leaf);
     write_16(chain->bytes, (unsigned)chain->length);
     X509_free(leaf);
     return good;
+}
+
+bool maker_certify(const struct maker *maker, const struct chip *chip, const char *name, struct chain *chain)
+{
+    return certify(maker, chip, (struct content){name, false, 0}, chain);
+}
+
+// A signature in DER is some bytes shorter or longer than the one before, so that it takes a few leaves until one fits.
+bool maker_certify_to(const struct maker *maker, const struct chip *chip, const char *name, size_t length,
+    struct chain *chain)
+{
+    const unsigned tries = 100;
+    struct content content = {name, false, 1024};
+    for (unsigned i = 0; i < tries; i++) {
+        if (!certify(maker, chip, content, chain))
+            return false;
+        if (chain->length == length)
+            return true;
+        content.statement += length - chain->length;
+    }
+    return false;
 }

@@ -13,11 +13,15 @@ struct chip {
     EVP_PKEY *key;
 };
 
-// A maker has a self-signed root certificate.
+enum { AUTHORITY_LIMIT = 4 };
+
+// A maker has a self-signed root certificate, and may have authorities under it, each certified by the one before. The
+// key is the last one's.
 struct maker {
     const struct suite *suite;
     EVP_PKEY *key;
-    X509 *root;
+    X509 *authorities[AUTHORITY_LIMIT];
+    size_t authority_count;
     uint8_t root_digest[DIGEST_LIMIT];
 };
 
@@ -32,7 +36,13 @@ bool chip_sign(const struct chip *chip, struct bytes prefix, struct bytes first,
 bool maker_start(struct maker *maker, const struct suite *suite, const char *name);
 void maker_end(struct maker *maker);
 
-// Writes the chain of the maker's root and a new leaf certificate for the chip's key.
+// A new authority, which signs from now on. Its certificate carries a statement of some bytes.
+bool maker_delegate(struct maker *maker, const char *name, size_t statement);
+
+// Writes the chain of the maker's root, his authorities and a new leaf certificate for the chip's key.
 bool maker_certify(const struct maker *maker, const struct chip *chip, const char *name, struct chain *chain);
+// The same with a statement in the leaf that makes the chain so long.
+bool maker_certify_to(const struct maker *maker, const struct chip *chip, const char *name, size_t length,
+    struct chain *chain);
 
 #endif

@@ -6,15 +6,6 @@
 #include <stdio.h>
 #include <string.h>
 
-// ResponseTooLarge tells the size that the answer would have.
-static void check_too_large(struct stage *stage, size_t size, const char *what)
-{
-    uint8_t error[8] = {EDITION_1_2, ERROR, 0x0D, 0};
-    write_32(error + 4, (uint32_t)size);
-    show_check(stage->show, answered(stage, (struct bytes){error, sizeof error}),
-        "%s is too large for size %u: %zu bytes", what, SMALL, size);
-}
-
 static void read_small_digests(struct stage *stage)
 {
     const enum verdict verdict = panel_digests(&stage->panel);
@@ -37,13 +28,12 @@ static void read_small_chain(struct stage *stage)
 // A panel whose messages have at most 42 bytes reads the chain but can't take a signature.
 static void meet_small_panel(struct stage *stage)
 {
-    const struct suite *suite = stage->suite;
     show_title(stage->show, "A small panel, DataTransferSize 42");
     check_verdict(stage, panel_connect(&stage->panel, SMALL), GOOD, "small panel connects");
     read_small_digests(stage);
     read_small_chain(stage);
     panel_challenge(&stage->panel, 0, 0);
-    check_too_large(stage, 4 + suite->digest_size + NONCE_SIZE + 2 + suite->signature_size, "CHALLENGE_AUTH");
+    check_too_large(stage, challenge_auth_size(stage->suite), "CHALLENGE_AUTH");
 }
 
 // A conversation to its end, and what is said of it.
@@ -134,6 +124,7 @@ int main(int count, char **words)
     audit(&show, p384, EDITION_1_2);
     audit(&show, p256, EDITION_1_1);
     audit_editions(&show, p384);
+    audit_chains(&show, p256);
     audit_host(&show, p256);
     audit_host(&show, p384);
     return show_end(&show);

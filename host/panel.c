@@ -17,7 +17,7 @@ const char *verdict_text(enum verdict verdict)
         [NOTHING_COMMON] = "no edition in common",
         [WRONG_DIGEST] = "digest does not match the chain",
         [UNKNOWN_ROOT] = "root certificate not trusted",
-        [WRONG_CERTIFICATE] = "certificate not signed by the root",
+        [WRONG_CERTIFICATE] = "certificate not signed by the one before it",
         [WRONG_SIGNATURE] = "signature does not verify",
         [WRONG_MEASUREMENT] = "measurement differs from what is expected",
     };
@@ -232,52 +232,71 @@ static enum verdict read_portion(struct panel *panel, uint8_t slot, unsigned len
         return MALFORMED;
     memcpy(panel->chain.bytes + panel->chain.length, panel->answer + 8, portion);
     panel->chain.length += portion;
+    panel->full_reads += portion == length;
     *remainder = read_16(panel->answer + 6);
     panel->m.length = 0;
     return keep(panel, &panel->b, request, panel->answer_length);
 }
 
-// The leaf is signed by the root, and the root by itself.
-static bool certificates_hold(X509 *root, X509 *leaf)
+// The certificates of the chain, from the root to the leaf, as many as there are; `whole`: nothing else is behind them.
+static STACK_OF(X509) *take_certificates(const struct panel *panel, bool *whole)
 {
+    const uint8_t *at = panel->chain.bytes + 4 + panel->suite->digest_size;
+    const uint8_t *end = panel->chain.bytes + panel->chain.length;
+    STACK_OF(X509) *taken = sk_X509_new_null();
+    X509 *next = NULL;
+    *whole = true;
+    while (*whole && at < end) {
+        next = d2i_X509(NULL, &at, end - at);
+        *whole = next && sk_X509_push(taken, next) > 0;
+        if (!*whole)
+            X509_free(next);
+    }
+    return taken;
+}
+
+// Each certificate is signed by the one before it, the root by itself, and those before the leaf may sign.
+static bool certificates_hold(STACK_OF(X509) *certificates)
+{
+    const int count = sk_X509_num(certificates);
     X509_STORE *store = X509_STORE_new();
     X509_STORE_CTX *context = X509_STORE_CTX_new();
-    bool good = store && context && X509_STORE_add_cert(store, root) == 1
-        && X509_STORE_CTX_init(context, store, leaf, NULL) == 1
-        && X509_verify_cert(context) == 1
-        && X509_verify(root, X509_get0_pubkey(root)) == 1;
+    bool good = store && context && X509_STORE_add_cert(store, sk_X509_value(certificates, 0)) == 1
+        && X509_STORE_CTX_init(context, store, sk_X509_value(certificates, count - 1), certificates) == 1
+        && X509_verify_cert(context) == 1;
+    for (int i = 0; good && i < count; i++) {
+        X509 *signer = sk_X509_value(certificates, i == 0 ? 0 : i - 1);
+        good = X509_verify(sk_X509_value(certificates, i), X509_get0_pubkey(signer)) == 1;
+    }
     X509_STORE_CTX_free(context);
     X509_STORE_free(store);
     return good;
 }
 
 // The root's digest is the one stated in the chain, and the one that the panel trusts.
-static bool root_is_trusted(const struct panel *panel, struct bytes root)
+static bool root_is_trusted(const struct panel *panel, const X509 *root)
 {
     uint8_t digest[DIGEST_LIMIT];
     const struct bytes found = {digest, panel->suite->digest_size};
     const struct bytes stated = {panel->chain.bytes + 4, panel->suite->digest_size};
-    return digest_of(panel->suite, &root, 1, digest) && same_bytes(found, stated)
-        && same_bytes(found, panel->trusted_root);
+    return X509_digest(root, EVP_get_digestbyname(panel->suite->hash), digest, NULL) == 1
+        && same_bytes(found, stated) && same_bytes(found, panel->trusted_root);
 }
 
-// Two certificates, nothing behind them; the leaf's public key is kept.
+// A root and a leaf at least, nothing behind them; the leaf's public key is kept.
 static enum verdict check_certificates(struct panel *panel)
 {
-    const uint8_t *start = panel->chain.bytes + 4 + panel->suite->digest_size;
-    const uint8_t *end = panel->chain.bytes + panel->chain.length, *at = start;
+    bool whole;
+    STACK_OF(X509) *certificates = take_certificates(panel, &whole);
+    const int count = sk_X509_num(certificates);
     enum verdict verdict = WRONG_CERTIFICATE;
-    X509 *root = d2i_X509(NULL, &at, end - at);
-    const struct bytes root_bytes = {start, root ? (size_t)(at - start) : 0};
-    X509 *leaf = root ? d2i_X509(NULL, &at, end - at) : NULL;
-    if (root && !root_is_trusted(panel, root_bytes))
+    if (count > 0 && !root_is_trusted(panel, sk_X509_value(certificates, 0)))
         verdict = UNKNOWN_ROOT;
-    else if (leaf && at == end && certificates_hold(root, leaf))
+    else if (count > 1 && whole && certificates_hold(certificates))
         verdict = GOOD;
     EVP_PKEY_free(panel->leaf_key);
-    panel->leaf_key = verdict == GOOD ? X509_get_pubkey(leaf) : NULL;
-    X509_free(leaf);
-    X509_free(root);
+    panel->leaf_key = verdict == GOOD ? X509_get_pubkey(sk_X509_value(certificates, count - 1)) : NULL;
+    sk_X509_pop_free(certificates, X509_free);
     return verdict;
 }
 
@@ -302,6 +321,7 @@ enum verdict panel_chain(struct panel *panel, uint8_t slot, unsigned length)
     enum verdict verdict = panel->suite ? GOOD : UNCONNECTED;
     unsigned remainder = 1;
     panel->chain.length = 0;
+    panel->full_reads = 0;
     for (panel->reads = 0; verdict == GOOD && remainder > 0; panel->reads++)
         verdict = read_portion(panel, slot, length, &remainder);
     return verdict == GOOD ? check_chain(panel, slot) : verdict;

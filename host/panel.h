@@ -7,7 +7,8 @@
 
 #include <openssl/evp.h>
 
-enum { LOG_LIMIT = 8192 };
+// A log holds what a box may keep of A, B or M; B's is the longest.
+enum { LOG_LIMIT = 28672 };
 
 // How a request reaches a box, or whoever sits between: gives the answer's length, 0 for silence.
 struct line {
@@ -57,7 +58,7 @@ struct panel {
     uint8_t slots;
     uint8_t digests[8][DIGEST_LIMIT];
     struct chain chain;
-    unsigned reads;
+    unsigned reads, full_reads; // portions of the chain, and those of them that have the length asked
     EVP_PKEY *leaf_key;
     bool has_summary;
     uint8_t summary[DIGEST_LIMIT];

@@ -2,6 +2,8 @@
 
 #include <stdlib.h>
 
+_Static_assert((int)LOG_LIMIT == (int)B_LIMIT, "a panel logs as much as a box keeps");
+
 static const struct component components[] = {
     {1, 0, true, "boot ROM of the box, mask 3"},
     {2, 1, true, "firmware of the box, release 7.2"},
@@ -9,6 +11,11 @@ static const struct component components[] = {
 };
 
 enum { COMPONENT_COUNT = sizeof components / sizeof components[0] };
+
+size_t challenge_auth_size(const struct suite *suite)
+{
+    return 4 + suite->digest_size + NONCE_SIZE + 2 + suite->signature_size;
+}
 
 struct provision stage_provision(const struct stage *stage, const struct slot *slots, size_t count)
 {
@@ -82,6 +89,14 @@ void check_verdict(struct stage *stage, enum verdict found, enum verdict wanted,
 bool answered(const struct stage *stage, struct bytes wanted)
 {
     return same_bytes((struct bytes){stage->panel.answer, stage->panel.answer_length}, wanted);
+}
+
+void check_too_large(struct stage *stage, size_t size, const char *what)
+{
+    uint8_t error[8] = {EDITION_1_2, ERROR, 0x0D, 0};
+    write_32(error + 4, (uint32_t)size);
+    show_check(stage->show, answered(stage, (struct bytes){error, sizeof error}),
+        "%s is too large for size %u: %zu bytes", what, SMALL, size);
 }
 
 void check_error(struct stage *stage, struct bytes request, struct bytes error, const char *what)

@@ -30,6 +30,9 @@ struct stage {
 struct stage *stage_start(struct show *show, const struct suite *suite, uint8_t edition);
 void stage_end(struct stage *stage);
 
+// How long a CHALLENGE_AUTH is that carries no summary hash.
+size_t challenge_auth_size(const struct suite *suite);
+
 // What goes into every image beside chains.
 struct provision stage_provision(const struct stage *stage, const struct slot *slots, size_t count);
 // A box with one chain, in slot 0.
@@ -42,6 +45,8 @@ void place_panel_at(struct stage *stage, struct box *box);
 void check_verdict(struct stage *stage, enum verdict found, enum verdict wanted, const char *what);
 // The answer that the panel holds is exactly this one.
 bool answered(const struct stage *stage, struct bytes wanted);
+// The answer is ResponseTooLarge, which tells the size that the panel of size 42 can't take.
+void check_too_large(struct stage *stage, size_t size, const char *what);
 // Sends a request that must get this ERROR, and shows both.
 void check_error(struct stage *stage, struct bytes request, struct bytes error, const char *what);
 

@@ -8,7 +8,8 @@
 
 enum {
     MESSAGE_LIMIT = 4608,
-    CHAIN_LIMIT = 4096,
+    CHAIN_LIMIT = 16384,
+    CHAIN_ROOM = CHAIN_LIMIT + 16, // more, so that a chain can be too long
     DIGEST_LIMIT = 64,
     SIGNATURE_LIMIT = 512,
     NONCE_SIZE = 32,
@@ -64,7 +65,7 @@ struct component {
 // A certificate chain in SPDM's format: length, reserved, root hash, certificates.
 struct chain {
     size_t length;
-    uint8_t bytes[CHAIN_LIMIT];
+    uint8_t bytes[CHAIN_ROOM];
 };
 
 // An edition as people write it.

@@ -19,17 +19,22 @@
 extern "C" {
 #endif
 
-/* The version of this header: one more with every change of a declaration, of a value or of what a call gives. */
-#define SPDM_RESPONDER_VERSION 2
+/*
+ * The version of this header: one more with every change of a declaration, of a value or of what a call gives.
+ * New in 3: longer chains and images, and for them a transcript of 36,864 bytes, not 16,384. A host that lends less
+ * gets number 12 from spdm_respond and spdm_finish (docs/HOST.md, "A host for version 2 of the header").
+ */
+#define SPDM_RESPONDER_VERSION 3
 
 /* Sizes. */
 #define SPDM_STATE_WORDS 9         /* exactly this many words of state */
 #define SPDM_ANSWER_MIN 4608       /* at least this many bytes for an answer; no answer is longer */
-#define SPDM_TRANSCRIPT_MIN 16384  /* at least this many bytes of transcript; none past it is used */
+#define SPDM_TRANSCRIPT_MIN 36864  /* at least this many bytes of transcript; none past it is used */
 #define SPDM_NONCE_LEN 32          /* exactly this many bytes of nonce */
 #define SPDM_PREFIX_LEN 100        /* room for the prefix, which under 1.2 is signed before the hash */
 #define SPDM_PARTS_WORDS 4         /* offset and length of two parts */
-#define SPDM_IMAGE_MAX 36864       /* the longest image that is accepted */
+#define SPDM_IMAGE_MAX 61440       /* the longest image that is accepted, */
+#define SPDM_CHAIN_MAX 16384       /*   and the longest chain in one */
 #define SPDM_ALGORITHMS_WORDS 7    /* what spdm_image_algorithms shows */
 #define SPDM_HASH_MAX 64           /* the longest digest, */
 #define SPDM_SIGNATURE_MAX 512     /*   and the longest signature of an image */
@@ -120,18 +125,18 @@ extern "C" {
 #define SPDM_LENGTH(result) ((uint32_t)(result) & 0xFFFFu)
 
 /* Numbers of an image: its first fault, record by record. */
-#define SPDM_IMAGE_SIZE 1          /* empty, or over 36,864 bytes */
+#define SPDM_IMAGE_SIZE 1          /* empty, or over 61,440 bytes */
 #define SPDM_IMAGE_VERSION 2       /* byte 0 is not 1 */
 #define SPDM_IMAGE_BROKEN 3        /* 1 or 2 bytes left for a record head, or a body that runs past the end */
 #define SPDM_IMAGE_KIND 4          /* a kind unknown or out of sequence, or, at the end, a needed record missing */
 #define SPDM_IMAGE_MANY 5          /* a 9th chain or a 33rd measurement */
-#define SPDM_IMAGE_LENGTH 6        /* a body's length is wrong, a chain's included */
+#define SPDM_IMAGE_LENGTH 6        /* a body's length is wrong, or a chain is under 5 + H or over 16,384 bytes */
 #define SPDM_IMAGE_FIELD 7         /* a field out of range, slot or index not rising, first slot not 0 */
 #define SPDM_IMAGE_CHAIN 8         /* a chain's own length field differs */
 
 /* Numbers of a call. */
 #define SPDM_SHORT_BUFFER 11       /* answer under 4,608 bytes, prefix under 100; parts under 4 words, algorithms 7 */
-#define SPDM_SHORT_TRANSCRIPT 12   /* transcript under 16,384 bytes */
+#define SPDM_SHORT_TRANSCRIPT 12   /* transcript under 36,864 bytes */
 #define SPDM_WRONG_NONCE 13        /* nonce not 32 bytes */
 #define SPDM_WRONG_STATE 14        /* state not 9 words or out of its bounds; spdm_to_sign: bounds that need no image */
 #define SPDM_NOTHING_AWAITED 15    /* no signature is awaited */
@@ -145,7 +150,7 @@ extern "C" {
  * Numbers, the first that holds, in this order:
  *   1-8  the image has this fault
  *   11   answer_len is under 4,608
- *   12   transcript_len is under 16,384
+ *   12   transcript_len is under 36,864
  *   13   nonce_len is not 32
  *   14   the state is out of its bounds for this image, or state_len is not 9
  * (15 and 16 are not given.) Afterwards state, transcript and answer are as they were.
@@ -180,7 +185,7 @@ uint32_t spdm_respond(const uint8_t *image, uint64_t image_len,
  * Numbers, the first that holds, in this order:
  *   1-8  the image has this fault
  *   11   answer_len is under 4,608
- *   12   transcript_len is under 16,384
+ *   12   transcript_len is under 36,864
  *   14   the state is out of its bounds for this image, or state_len is not 9
  *   15   no signature is awaited
  *   16   the chip succeeded, and signature_len is not the image's S
@@ -210,7 +215,7 @@ uint32_t spdm_finish(const uint8_t *image, uint64_t image_len,
  * Numbers, the first that holds, in this order:
  *   11   prefix_len is under 100, or parts_len under 4, under either edition
  *   14   state_len is not 9, or the state is out of its bounds, of which those are tested that need no image: phase 0
- *        to 3; A, B, M at most 512, 8,192, 7,680 bytes; edition 0 in phases 0 and 1, and 0x11 or 0x12 in phases 2 and
+ *        to 3; A, B, M at most 512, 28,672, 7,680 bytes; edition 0 in phases 0 and 1, and 0x11 or 0x12 in phases 2 and
  *        3, 0x11 with a peer's size of exactly 4,608, 0x12 of at least 42; exactly 0, 14 bytes of A in phases 0, 1, and
  *        in phase 2 38 (0x11) or 54 (0x12), and in all three none of B and M; selection 0 or 1, and 1 only in phase 3;
  *        awaited 0, 1 or 2, and 1 or 2 only in phase 3, with an answer's length of at most 4,608

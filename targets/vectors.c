@@ -12,8 +12,10 @@
 #include <sys/wait.h>
 #include <unistd.h>
 
-enum { IMAGE_ROOM = 40960, TRANSCRIPT_ROOM = 20480, ANSWER_ROOM = 8192, REQUEST_ROOM = 12288, SMALL_ROOM = 4096 };
+enum { IMAGE_ROOM = 65536, TRANSCRIPT_ROOM = 40960, ANSWER_ROOM = 8192, REQUEST_ROOM = 12288, SMALL_ROOM = 4096 };
 enum { IMAGES = 64, FIELDS = 16, STATE_SIZE = 4 * SPDM_STATE_WORDS };
+// Where B and M begin in the transcript.
+enum { B_START = 512, M_START = 29184 };
 
 struct bytes {
     uint8_t *at;
@@ -328,7 +330,7 @@ static void check_to_sign(void)
     uint8_t filled[SPDM_PREFIX_LEN];
     const uint32_t *state = run.state, whose = state[SPDM_STATE_AWAITED];
     const bool challenge = whose == SPDM_AWAITS_CHALLENGE, old = state[SPDM_STATE_EDITION] == SPDM_EDITION_1_1;
-    const uint32_t wanted[] = {0, old && !challenge ? 0 : state[SPDM_STATE_A], challenge ? 512 : 8704,
+    const uint32_t wanted[] = {0, old && !challenge ? 0 : state[SPDM_STATE_A], challenge ? B_START : M_START,
         challenge ? state[SPDM_STATE_B] : state[SPDM_STATE_M]};
     memset(filled, (int)line_number, sizeof filled);
     memcpy(run.prefix, filled, sizeof filled);

@@ -9,17 +9,17 @@
 #![forbid(unsafe_code)]
 
 /// The longest image.
-pub const MAX_IMAGE: usize = 36_864;
+pub const MAX_IMAGE: usize = 61_440;
 /// The longest message either way; also the least answer buffer.
 pub const MAX_MESSAGE: usize = 4_608;
 /// The least transcript buffer.
-pub const TRANSCRIPT: usize = 16_384;
+pub const TRANSCRIPT: usize = 36_864;
 /// Where B and M begin in the transcript buffer (A begins at 0).
 pub const B_START: usize = 512;
-pub const M_START: usize = 8_704;
+pub const M_START: usize = 29_184;
 /// How many bytes A, B and M can hold.
 pub const A_ROOM: usize = 512;
-pub const B_ROOM: usize = 8_192;
+pub const B_ROOM: usize = 28_672;
 pub const M_ROOM: usize = 7_680;
 /// The words of a state.
 pub const STATE_WORDS: usize = 9;
@@ -33,7 +33,7 @@ const HEADER: usize = 4;
 const MIN_PEER_SIZE: u32 = 42;
 /// The peer's size where it tells none.
 const UNTOLD_PEER_SIZE: u32 = MAX_MESSAGE as u32;
-pub(crate) const MAX_CHAIN: usize = 4_096;
+pub(crate) const MAX_CHAIN: usize = 16_384;
 const MAX_PORTION: usize = 1_024;
 pub(crate) const MAX_CHAINS: usize = 8;
 pub(crate) const MAX_MEASUREMENTS: usize = 32;

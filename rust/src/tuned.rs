@@ -15,6 +15,9 @@ const IDENTITY_END: usize = 7;
 /// The bytes of a record's head: length and kind.
 const HEAD: usize = 3;
 
+// A place in an image is kept in 16 bits.
+const _: () = assert!(MAX_IMAGE <= u16::MAX as usize);
+
 /// An accepted image with digests of H bytes.
 struct Image<'a, const H: usize> {
     bytes: &'a [u8],

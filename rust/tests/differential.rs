@@ -6,6 +6,7 @@
 //! `SPDM_SEED` and `SPDM_CALLS` choose other runs; the same two give the same runs again. With `SPDM_TRACE` set,
 //! each call is printed before it is made, so that the last line names a call that did not return.
 
+use std::collections::BTreeMap;
 use std::fmt::Write as _;
 use std::time::Instant;
 
@@ -13,6 +14,22 @@ use spdm_check::{ffi, plain, tuned};
 
 const DEFAULT_SEED: u64 = 0x5350_444D_0001;
 const DEFAULT_CALLS: u64 = 200_000;
+
+// The paper's limits, written here once more: a responder that has one wrong must not move what is tried.
+const MAX_IMAGE: usize = 61_440;
+const MAX_CHAIN: usize = 16_384;
+const TRANSCRIPT: usize = 36_864;
+const B_START: usize = 512;
+const M_START: usize = 29_184;
+const A_ROOM: usize = 512;
+const B_ROOM: usize = 28_672;
+const M_ROOM: usize = 7_680;
+
+// What they were before request 5.
+const OLD_MAX_IMAGE: usize = 36_864;
+const OLD_MAX_CHAIN: usize = 4_096;
+const OLD_TRANSCRIPT: usize = 16_384;
+const OLD_B_ROOM: usize = 8_192;
 
 /// A state's words, and the places of those that are looked at.
 type State = [u32; plain::STATE_WORDS];
@@ -210,11 +227,30 @@ fn rising(rng: &mut Rng, low: usize, high: usize, count: usize) -> Vec<u8> {
     all.iter().map(|&number| number as u8).collect()
 }
 
+/// A valid image with any bytes where there may be any.
+fn spec_of(rng: &mut Rng, [hash, signature]: [usize; 2], chains: Vec<(u8, usize)>, indices: Vec<u8>) -> Spec {
+    let h = H[hash];
+    let mut records = vec![(1, vec![rng.below(32) as u8, hash as u8, signature as u8])];
+    for &(slot, length) in &chains {
+        let mut body = vec![slot];
+        body.extend(rng.bytes(h + length));
+        set_own_length(&mut body, h);
+        records.push((2, body));
+    }
+    for &index in &indices {
+        let mut body = vec![index, rng.below(4) as u8];
+        body.extend(rng.bytes(h));
+        records.push((3, body));
+    }
+    if !indices.is_empty() {
+        records.push((4, rng.bytes(2 * h)));
+    }
+    Spec { hash, signature, chains, indices, records }
+}
+
 fn valid_spec(rng: &mut Rng) -> Spec {
     let (hash, signature) = (rng.below(6), rng.below(9));
     let h = H[hash];
-    let mut records = vec![(1, vec![rng.below(32) as u8, hash as u8, signature as u8])];
-
     let slots = match rng.below(4) {
         0 => vec![0],
         1 => (0..8).collect(),
@@ -225,29 +261,32 @@ fn valid_spec(rng: &mut Rng) -> Spec {
             slots
         }
     };
-    let big = rng.one_in(6);
-    let mut chains = Vec::new();
-    for slot in slots {
-        let length = match rng.below(8) {
-            0 => 5 + h,
-            1 if big => 4_096,
-            _ if big => rng.range(5 + h, 4_096),
-            2 => rng.range(5 + h, 1_400),
-            _ => rng.range(5 + h, 200),
-        };
-        let mut body = vec![slot];
-        body.extend(rng.bytes(h + length));
-        body[1 + h..3 + h].copy_from_slice(&(length as u16).to_le_bytes());
-        records.push((2, body));
-        chains.push((slot, length));
-    }
-
     let count = match rng.below(6) {
         0 => 0,
         1 => 1,
         2 => 32,
         _ => rng.range(1, 32),
     };
+    // What the chains may have beyond their least, so that the image has no more than it may.
+    let summaries = if count > 0 { 3 + 2 * h } else { 0 };
+    let mut spare = MAX_IMAGE - 7 - slots.len() * (4 + h + 5 + h) - count * (5 + h) - summaries;
+    let big = rng.one_in(8);
+    let full = big && rng.one_in(3);
+    let mut chains = Vec::new();
+    for slot in slots {
+        let most = MAX_CHAIN.min(5 + h + spare);
+        let length = match rng.below(8) {
+            _ if full => most,
+            0 => 5 + h,
+            1 if big => most,
+            _ if big => rng.range(5 + h, most),
+            2 => rng.range(5 + h, most.min(1_400)),
+            _ => rng.range(5 + h, most.min(200)),
+        };
+        spare -= length - (5 + h);
+        chains.push((slot, length));
+    }
+
     let mut indices = rising(rng, 1, 239, count);
     if count > 0 && rng.one_in(4) {
         indices[0] = 1;
@@ -256,15 +295,25 @@ fn valid_spec(rng: &mut Rng) -> Spec {
             indices[last] = 239;
         }
     }
-    for &index in &indices {
-        let mut body = vec![index, rng.below(4) as u8];
-        body.extend(rng.bytes(h));
-        records.push((3, body));
+    spec_of(rng, [hash, signature], chains, indices)
+}
+
+/// Makes a chain's own length that of its bytes.
+fn set_own_length(body: &mut [u8], h: usize) {
+    let length = body.len() - 1 - h;
+    body[1 + h..3 + h].copy_from_slice(&(length as u16).to_le_bytes());
+}
+
+/// Lengthens chains until the image has `length` bytes, or no chain can be longer.
+fn lengthen(records: &mut [(u8, Vec<u8>)], h: usize, length: usize) {
+    let now = 1 + records.iter().map(|record| 3 + record.1.len()).sum::<usize>();
+    let mut missing = length.saturating_sub(now);
+    for (_, body) in records.iter_mut().filter(|record| record.0 == 2 && record.1.len() >= 3 + h) {
+        let more = missing.min((1 + h + MAX_CHAIN).saturating_sub(body.len()));
+        body.resize(body.len() + more, 0);
+        set_own_length(body, h);
+        missing -= more;
     }
-    if count > 0 {
-        records.push((4, rng.bytes(2 * h)));
-    }
-    Spec { hash, signature, chains, indices, records }
 }
 
 fn encode(records: &[(u8, Vec<u8>)]) -> Vec<u8> {
@@ -317,8 +366,12 @@ fn damage_records(rng: &mut Rng, spec: &Spec, records: &mut Vec<(u8, Vec<u8>)>) 
                 2 => body.clear(),
                 3 => body.truncate(1),
                 _ => {
-                    let longer = rng.pick(&[3, 2 + h, 2 * h, 6 + 2 * h, 5 + 2 * h, 1 + h + 4_096, 1 + h + 4_097]);
+                    let chains = [5 + h, 4 + h, OLD_MAX_CHAIN, MAX_CHAIN, MAX_CHAIN + 1];
+                    let longer = if rng.one_in(2) { 1 + h + rng.pick(&chains) } else { rng.pick(&[3, 2 + h, 2 * h]) };
                     body.resize(longer, 0);
+                    if longer >= 3 + h && rng.one_in(2) {
+                        set_own_length(body, h);
+                    }
                 }
             }
         }
@@ -368,6 +421,14 @@ fn damage_records(rng: &mut Rng, spec: &Spec, records: &mut Vec<(u8, Vec<u8>)>) 
             let length = rng.pick(&[0, 1, 3, 2 + h, 2 * h]);
             records.push((kind, vec![0; length]));
         }
+        11 => lengthen(records, h, MAX_IMAGE + rng.below(3) - 1),
+        12 => {
+            // A chain as long as it may be, or a byte longer.
+            if let (2, body) = &mut records[at] {
+                body.resize(1 + h + MAX_CHAIN + rng.below(2), 0);
+                set_own_length(body, h);
+            }
+        }
         _ => {}
     }
 }
@@ -395,7 +456,7 @@ fn damage_bytes(rng: &mut Rng, records: &[(u8, Vec<u8>)], image: &mut Vec<u8>) {
         }
         8 => image.clear(),
         9 => {
-            let length = rng.pick(&[36_863, 36_864, 36_865, 36_866, 40_000]);
+            let length = rng.pick(&[OLD_MAX_IMAGE + 1, MAX_IMAGE - 1, MAX_IMAGE, MAX_IMAGE + 1, 65_536]);
             image.resize(length, rng.pick(&[0, 1, 2, 255]));
         }
         10 => image[0] = rng.pick(&[0, 2, 129, 255]),
@@ -539,7 +600,7 @@ fn get_certificate(rng: &mut Rng, spec: &Spec, version: u8) -> Vec<u8> {
     let offset = match rng.below(10) {
         0 => chain - 1,
         1 => chain,
-        2 => rng.pick(&[chain + 1, 65_535, 4_096, 4_095, 256]),
+        2 => rng.pick(&[chain + 1, 65_535, MAX_CHAIN, MAX_CHAIN - 1, OLD_MAX_CHAIN, OLD_MAX_CHAIN - 1, 256]),
         3 | 4 => 0,
         _ => rng.below(chain),
     } as u16;
@@ -703,7 +764,7 @@ fn some_request(rng: &mut Rng, spec: &Spec, state: &State) -> Vec<u8> {
 // --------------------------------------------------------------------------------------------- the states
 
 /// Numbers at the bounds of one word or another, or beside them.
-const NEAR: [u32; 47] = [
+const NEAR: [u32; 49] = [
     0,
     1,
     2,
@@ -741,10 +802,12 @@ const NEAR: [u32; 47] = [
     7_679,
     7_680,
     7_681,
-    8_191,
     8_192,
     8_193,
-    16_384,
+    28_671,
+    28_672,
+    28_673,
+    36_864,
     65_535,
     65_536,
     0x7FFF_FFFF,
@@ -756,16 +819,16 @@ const NEAR: [u32; 47] = [
 /// A state in phase 3, within its bounds, often with B and M nearly full.
 fn negotiated_state(rng: &mut Rng, spec: &Spec) -> State {
     let selected = u32::from(!spec.indices.is_empty() && !rng.one_in(4));
-    let sizes = spec.unsigned_sizes();
-    let mut used = |room: usize, layouts: &[usize]| match rng.below(4) {
+    let mut used = |room: usize, pairs: &[usize]| match rng.below(4) {
         0 => 0,
         1 => rng.range(0, room),
         2 => room - rng.below(60),
-        // Just enough room for one of the answers, or one byte too little or too much.
-        _ => (room + 1 - rng.pick(layouts) - rng.pick(&sizes) - rng.below(3)).min(room),
+        // Just enough room for a request and its answer, or one byte too little or too much.
+        _ => room + 1 - rng.pick(pairs) - rng.below(3),
     };
-    let b = used(8_192, &[4, 36, 16]);
-    let m = used(7_680, &[4, 37]);
+    let [digests, challenge, summed, none, one, all] = spec.unsigned_sizes();
+    let b = used(B_ROOM, &[4 + digests, 36 + challenge, 36 + summed, 16 + 34, 16 + 1_024]);
+    let m = used(M_ROOM, &[4 + none, 4 + one, 4 + all, 37 + none, 37 + one, 37 + all]);
     let awaited = if rng.one_in(3) { rng.range(1, 2) as u32 } else { 0 };
     let length = match (awaited, rng.below(4)) {
         (0, 0) => rng.word(),
@@ -781,7 +844,7 @@ fn negotiated_state(rng: &mut Rng, spec: &Spec) -> State {
         1 => rng.pick(&[u32::MAX, 0x8000_0000, 65_536]),
         _ => 4_608,
     };
-    let a = rng.range(0, 512);
+    let a = rng.range(0, A_ROOM);
     [3, peer, selected, a as u32, b as u32, m as u32, awaited, length, edition]
 }
 
@@ -813,6 +876,13 @@ fn hostile_state(rng: &mut Rng, spec: &Spec) -> State {
             let mut state = if rng.one_in(2) { early } else { negotiated_state(rng, spec) };
             state[EDITION] = 0x11;
             state[PEER] = rng.pick(&[0, 41, 42, 4_607, 4_609, 65_536 + 4_608, u32::MAX]);
+            state
+        }
+        5 => {
+            // A region full, or used by a byte more than it has.
+            let mut state = negotiated_state(rng, spec);
+            let (word, room) = rng.pick(&[(A, A_ROOM), (B, B_ROOM), (M, M_ROOM)]);
+            state[word] = (room + rng.below(2)) as u32;
             state
         }
         _ => good_state(rng, spec),
@@ -885,6 +955,103 @@ struct Met {
     /// Calls without a number, by the edition that they leave.
     under: [Under; EDITIONS.len()],
     images: [u64; 17],
+    sorts: Sorts,
+}
+
+/// Sorts of images and calls at the limits, or past what the limits were, each with how often it was met: 0 for one that
+/// was looked for in vain.
+#[derive(Default)]
+struct Sorts(BTreeMap<&'static str, u64>);
+
+impl Sorts {
+    fn count(&mut self, sort: &'static str, met: bool) {
+        *self.0.entry(sort).or_default() += u64::from(met);
+    }
+
+    fn image(&mut self, image: &[u8], number: u32) {
+        let (chains, length) = (chain_lengths(image), image.len());
+        self.count("image over 36,864 bytes, accepted", number == 0 && length > OLD_MAX_IMAGE);
+        self.count("image of 61,440 bytes, accepted", number == 0 && length == MAX_IMAGE);
+        self.count("image of 61,441 bytes, number 1", number == 1 && length == MAX_IMAGE + 1);
+        self.count("image with a chain of 16,384 bytes, accepted", number == 0 && chains.contains(&MAX_CHAIN));
+        self.count("image with a chain of 16,385 bytes, number 6", number == 6 && chains.contains(&(MAX_CHAIN + 1)));
+    }
+
+    /// A call: its number, and the answer and the state that it left.
+    fn call(&mut self, setting: &Setting, number: u32, answer: &[u8], after: &[u32]) {
+        let Setting { image, state, transcript_len: lent, .. } = setting;
+        self.count("call on an image of 61,440 bytes", number == 0 && image.len() == MAX_IMAGE);
+        self.count("transcript of 36,863 bytes, number 12", number == 12 && *lent == TRANSCRIPT - 1);
+        self.count("transcript of 36,864 bytes, taken", number == 0 && *lent == TRANSCRIPT);
+        self.count("transcript over 36,864 bytes, taken", number == 0 && *lent > TRANSCRIPT);
+        let over = number == 14 && state.get(B) == Some(&(B_ROOM as u32 + 1));
+        self.count("B of 28,673 bytes, number 14", over && only_its(state, B, &[B_ROOM as u32]));
+
+        let used = |words: &[u32]| if number == 0 { words[B] as usize } else { 0 };
+        let (before, after) = (used(state), used(after));
+        self.count("B of 28,672 bytes, taken", before == B_ROOM);
+        self.count("B filled past 8,192 bytes", before < after && after > OLD_B_ROOM);
+
+        let (request, code) = match &setting.call {
+            Call::Respond { request, .. } if number == 0 => (&request[..], answer[1]),
+            _ => (&[][..], 0),
+        };
+        let full = before < B_ROOM && after == B_ROOM;
+        self.count("DIGESTS to B's last byte", full && code == 0x01);
+        self.count("CERTIFICATE to B's last byte", full && code == 0x02);
+        self.count("CHALLENGE_AUTH to B's last byte", full && code == 0x03);
+        let refused = code == 0x7F && answer[2] == 0x05 && request[1] == 0x81;
+        let too_long = refused && before + digests_pair(image) == B_ROOM + 1;
+        self.count("DIGESTS a byte too long for B, ERROR 0x05", too_long);
+
+        let u16_at = |bytes: &[u8], at: usize| usize::from(u16::from_le_bytes([bytes[at], bytes[at + 1]]));
+        let (offset, portion, rest) =
+            if code == 0x02 { (u16_at(request, 4), u16_at(answer, 4), u16_at(answer, 6)) } else { (0, 0, 0) };
+        self.count("read at an offset over 4,096", offset > OLD_MAX_CHAIN);
+        self.count("read at an offset over 8,192", offset > 2 * OLD_MAX_CHAIN);
+        self.count("read with a remainder over 8,192", rest > 2 * OLD_MAX_CHAIN);
+        self.count("read of 34 bytes behind 4,096", offset > OLD_MAX_CHAIN && portion == 34);
+        self.count("read of 1,024 bytes behind 4,096", offset > OLD_MAX_CHAIN && portion == 1_024);
+        self.count("read to the end of 16,384 bytes", offset + portion == MAX_CHAIN && rest == 0);
+    }
+
+    fn print(&self) {
+        for (sort, count) in &self.0 {
+            println!("  {sort}: {count}");
+        }
+    }
+
+    fn assert_all_met(&self) {
+        for (sort, &count) in &self.0 {
+            assert!(count > 0, "never met: {sort}");
+        }
+    }
+}
+
+/// The lengths of the chains in an image, as far as its records can be walked.
+fn chain_lengths(image: &[u8]) -> Vec<usize> {
+    let Some(h) = hash_size(image) else {
+        return Vec::new();
+    };
+    let (mut lengths, mut at) = (Vec::new(), 1);
+    while let Some(&[high, low, kind]) = image.get(at..).and_then(|rest| rest.first_chunk()) {
+        let length = usize::from(u16::from_be_bytes([high, low]));
+        if kind == 2 {
+            lengths.push(length.saturating_sub(1 + h));
+        }
+        at += 3 + length;
+    }
+    lengths
+}
+
+/// H, if an image says any.
+fn hash_size(image: &[u8]) -> Option<usize> {
+    H.get(usize::from(*image.get(5)?)).copied()
+}
+
+/// What GET_DIGESTS and DIGESTS of an accepted image have together.
+fn digests_pair(image: &[u8]) -> usize {
+    8 + chain_lengths(image).len() * hash_size(image).expect("an accepted image")
 }
 
 /// What has been met under an edition.
@@ -941,7 +1108,14 @@ impl Met {
             finished: [0; 2],
             shown: [0; 2],
         };
-        Met { numbers: [0; 17], edition_out: 0, chosen_anew: 0, under: [under; EDITIONS.len()], images: [0; 17] }
+        Met {
+            numbers: [0; 17],
+            edition_out: 0,
+            chosen_anew: 0,
+            under: [under; EDITIONS.len()],
+            images: [0; 17],
+            sorts: Sorts::default(),
+        }
     }
 }
 
@@ -961,15 +1135,16 @@ fn edition_of(state: &[u32]) -> usize {
     }
 }
 
-/// Whether a state that is out of bounds would be within them with another ninth word. (No image is looked at.)
-fn only_its_edition(state: &[u32]) -> bool {
+/// Whether a state that is out of bounds would be within them with one of these in a word's place. (No image is looked
+/// at.)
+fn only_its(state: &[u32], word: usize, others: &[u32]) -> bool {
     let out = |state: &[u32]| plain::to_sign(state, &mut [0; 100], &mut [0; 4]) == 14 << 16;
-    let mut other = state.to_vec();
+    let mut mended = state.to_vec();
     out(state)
         && state.len() == plain::STATE_WORDS
-        && [0, 0x11, 0x12].into_iter().any(|edition| {
-            other[EDITION] = edition;
-            !out(&other)
+        && others.iter().any(|&other| {
+            mended[word] = other;
+            !out(&mended)
         })
 }
 
@@ -990,19 +1165,23 @@ struct Host {
 impl Host {
     fn new(mut rng: Rng) -> Host {
         let spec = valid_spec(&mut rng);
+        let mut host = Host::with(rng, spec);
+        host.state = match host.rng.below(10) {
+            0 | 1 => negotiated_state(&mut host.rng, &host.spec),
+            2 => hostile_state(&mut host.rng, &host.spec),
+            _ => FRESH,
+        };
+        host.keep_any_answer();
+        host
+    }
+
+    fn with(mut rng: Rng, spec: Spec) -> Host {
         let image = encode(&spec.records);
-        let length = rng.pick(&[16_384, 16_384, 16_385, 16_500, 20_000]);
+        let length = TRANSCRIPT + rng.pick(&[0, 0, 1, 100, 4_000]);
         let contents = rng.bytes(length);
         let guard = rng.byte();
         let transcript = Both::new(&mut rng, &contents, guard);
-        let state = match rng.below(10) {
-            0 | 1 => negotiated_state(&mut rng, &spec),
-            2 => hostile_state(&mut rng, &spec),
-            _ => FRESH,
-        };
-        let mut host = Host { rng, spec, image, transcript, state, chosen: None, kept: Vec::new(), stuck: false };
-        host.keep_any_answer();
-        host
+        Host { rng, spec, image, transcript, state: FRESH, chosen: None, kept: Vec::new(), stuck: false }
     }
 
     /// For a state that was made up: any bytes as its awaited answer.
@@ -1052,10 +1231,10 @@ impl Host {
 
         let whole = self.transcript.plain.len();
         let transcript_len = match rng.below(40) {
-            0 => rng.pick(&[0, 1, 512, 8_704, 16_383]),
-            1 => rng.below(16_384),
-            2..=5 => rng.range(16_384, whole),
-            6 | 7 => 16_384,
+            0 => rng.pick(&[0, B_START, OLD_TRANSCRIPT, M_START, TRANSCRIPT - 1, TRANSCRIPT - 1]),
+            1 => rng.below(TRANSCRIPT),
+            2..=5 => rng.range(TRANSCRIPT, whole),
+            6 | 7 => TRANSCRIPT,
             _ => whole,
         };
         let answer_len = match rng.below(40) {
@@ -1089,8 +1268,8 @@ impl Host {
         Setting { image, state, transcript_len, answer, call }
     }
 
-    /// Makes the call on both sides and compares.
-    fn make(&mut self, setting: &Setting, met: &mut Met) -> Result<(), String> {
+    /// Makes the call on both sides and compares; the answer.
+    fn make(&mut self, setting: &Setting, met: &mut Met) -> Result<Vec<u8>, String> {
         let rng = &mut self.rng;
         let guard = rng.byte();
         let image = Guarded::new(rng, &setting.image, guard);
@@ -1167,11 +1346,12 @@ impl Host {
             if length != 0 || answer.plain != setting.answer || state.plain != setting.state {
                 return Err("a number, and yet something was changed (on both sides)".to_owned());
             }
-            met.edition_out += u64::from(number == 14 && only_its_edition(&setting.state));
+            met.edition_out += u64::from(number == 14 && only_its(&setting.state, EDITION, &[0, 0x11, 0x12]));
         } else {
             self.state.copy_from_slice(&state.plain);
             self.count(setting, &answer.plain, length, met)?;
         }
+        met.sorts.call(setting, number, &answer.plain, &state.plain);
         let state = self.state;
         compare_to_sign(&mut self.rng, &state, met)?;
         if self.rng.one_in(8) {
@@ -1184,7 +1364,56 @@ impl Host {
             return Err(format!("read_image: plain gives {:#x}, the library {:#x}", reading.0, reading.1));
         }
         met.images[(reading.0 >> 16) as usize] += 1;
-        unchanged("image", &image, &setting.image)
+        unchanged("image", &image, &setting.image)?;
+        answer.plain.truncate(length);
+        Ok(answer.plain)
+    }
+
+    /// Asks what all three must accept; the answer.
+    fn accepted(&mut self, request: Vec<u8>, met: &mut Met) -> Vec<u8> {
+        let (lent, nonce) = (self.rng.bytes(4_608), self.rng.bytes(32));
+        let (mut state, mut transcript, mut by_tuned) = (self.state, self.transcript.plain.clone(), lent.clone());
+        let length = tuned::respond(&self.image, &mut state, &mut transcript, &mut by_tuned, &request, &nonce);
+        let setting = Setting {
+            image: self.image.clone(),
+            state: self.state.to_vec(),
+            transcript_len: TRANSCRIPT,
+            answer: lent,
+            call: Call::Respond { request, nonce },
+        };
+        let answer = self.make(&setting, met).unwrap_or_else(|what| panic!("{what}\nthe call: {}", setting.describe()));
+        assert!(answer.len() >= 4 && answer[1] != 0x7F, "{}: the call: {}", hex(&answer), setting.describe());
+        let same = by_tuned.get(..length as usize) == Some(&answer) && transcript == self.transcript.plain;
+        assert!(same && state == self.state, "tuned gives something else: the call: {}", setting.describe());
+        answer
+    }
+
+    /// Restarts, and negotiates the edition of this version byte.
+    fn negotiate(&mut self, version: u8, peer_size: u32, met: &mut Met) {
+        self.accepted(vec![0x10, 0x84, 0, 0], met);
+        let mut capabilities = [&[version, 0xE1][..], &[0; 10]].concat();
+        if version == 0x12 {
+            capabilities.extend([peer_size.to_le_bytes(); 2].as_flattened());
+        }
+        self.accepted(capabilities, met);
+        self.accepted([&[version, 0xE3, 0, 0, 32, 0, 1, 0][..], &[0xFF; 8], &[0; 16]].concat(), met);
+    }
+
+    /// Reads a slot from its chain's start until no byte remains, as demand 3 has it: the portions.
+    fn read(&mut self, version: u8, slot: u8, asked: u16, met: &mut Met) -> Vec<Vec<u8>> {
+        let (mut portions, mut offset) = (Vec::new(), 0);
+        loop {
+            let [low, high] = u16::try_from(offset).expect("an offset").to_le_bytes();
+            let [asked_low, asked_high] = asked.to_le_bytes();
+            let answer = self.accepted(vec![version, 0x82, slot, 0, low, high, asked_low, asked_high], met);
+            let (head, portion) = answer.split_at(8);
+            assert!(!portion.is_empty(), "an empty portion");
+            offset += portion.len();
+            portions.push(portion.to_vec());
+            if head[6..] == [0, 0] {
+                return portions;
+            }
+        }
     }
 
     /// Counts what a call without a number came to, holds it to what is said of every such call, and keeps an answer that
@@ -1263,9 +1492,9 @@ fn compare_to_sign(rng: &mut Rng, words: &[u32], met: &mut Met) -> Result<(), St
     if plain >> 16 == 0 {
         let (edition, awaited) = (edition_of(words), words[AWAITED]);
         let wanted = match (edition, awaited) {
-            (_, 1) => [0, words[A], 512, words[B]],
-            (V1_1, _) => [0, 0, 8_704, words[M]],
-            _ => [0, words[A], 8_704, words[M]],
+            (_, 1) => [0, words[A], B_START as u32, words[B]],
+            (V1_1, _) => [0, 0, M_START as u32, words[M]],
+            _ => [0, words[A], M_START as u32, words[M]],
         };
         let as_it_was = prefix.plain == contents;
         if parts.plain[..4] != wanted || (plain, as_it_was) != if edition == V1_1 { (0, true) } else { (100, false) } {
@@ -1370,6 +1599,7 @@ fn random_runs() {
         }
         let none = &met.under[V1_1].errors;
         assert_eq!((none[0x0D], none[0x0E]), (0, 0), "errors that 1.1 does not have");
+        met.sorts.assert_all_met();
     }
 }
 
@@ -1384,6 +1614,48 @@ const WANTED: [Wanted; EDITIONS.len()] = [
     (&[0x01, 0x03, 0x04, 0x05, 0x07, 0x0D, 0x0E, 0x41], CHOSEN, &[0x01, 0x05, 0x0D], LEFT),
 ];
 
+/// Demand 3's reading at the longest chain, by the least portions and by the largest: no read is refused, the portions
+/// joined are the chain, and B holds all of it.
+#[test]
+fn longest_chains() {
+    let seed = from_env("SPDM_SEED", DEFAULT_SEED) ^ 0x4C4F_4E47;
+    let mut met = Met::nothing();
+    let longest = [0, 3, 7];
+    for (hash, slot) in longest.into_iter().enumerate() {
+        let mut rng = Rng(seed ^ hash as u64);
+        let length = |slot| if longest.contains(&slot) { MAX_CHAIN } else { 5 + H[hash] };
+        let chains = (0..8).map(|slot| (slot, length(slot))).collect();
+        let signature = rng.below(S.len());
+        let spec = spec_of(&mut rng, [hash, signature], chains, (1..=32).collect());
+        let chain = spec.records[1 + usize::from(slot)].1[1 + H[hash]..].to_vec();
+        let mut host = Host::with(rng, spec);
+        for (version, peer_size, asked, count) in [
+            (0x12, 42, 65_535, 482),
+            (0x12, 4_608, 34, 482),
+            (0x11, 4_608, 34, 482),
+            (0x12, 4_608, 1_024, 16),
+            (0x11, 4_608, 65_535, 16),
+        ] {
+            host.negotiate(version, peer_size, &mut met);
+            let mut used = 0;
+            // A peer of 42 bytes cannot take the digests.
+            if peer_size > 42 {
+                host.accepted(vec![version, 0x81, 0, 0], &mut met);
+                used = digests_pair(&host.image);
+            }
+            let portions = host.read(version, slot, asked, &mut met);
+            assert_eq!(portions.len(), count);
+            assert!(portions.concat() == chain, "another chain was read");
+            used += 16 * count + MAX_CHAIN;
+            assert_eq!(host.state[B] as usize, used);
+            assert!(host.transcript.plain[..B_START + used].ends_with(&portions[count - 1]));
+            if peer_size > 42 {
+                host.accepted([&[version, 0x83, slot, 0xFF][..], &[0; 32]].concat(), &mut met);
+            }
+        }
+    }
+}
+
 /// The readers alone, mostly on damaged images.
 #[test]
 fn random_images() {
@@ -1393,6 +1665,7 @@ fn random_images() {
     let mut rng = Rng(seed);
     let mut spec = valid_spec(&mut rng);
     let mut numbers = [0; 17];
+    let mut sorts = Sorts::default();
     for made in 0..count {
         if made % 16 == 0 {
             spec = valid_spec(&mut rng);
@@ -1418,9 +1691,14 @@ fn random_images() {
         unchanged("image", &lent, &image).unwrap_or_else(|what| panic!("seed {seed}, image {made}: {what}"));
         assert!(made % 16 != 0 || plain == 0, "seed {seed}, image {made}: a valid image is refused: {}", hex(&image));
         numbers[(plain >> 16) as usize] += 1;
+        sorts.image(&image, plain >> 16);
     }
     println!("{count} images, {:.1} s, no difference", start.elapsed().as_secs_f64());
     print_counts("images  ", &numbers, false);
+    sorts.print();
+    if count >= 50_000 {
+        sorts.assert_all_met();
+    }
 }
 
 fn print_counts(name: &str, counts: &[u64], in_hex: bool) {
@@ -1457,4 +1735,6 @@ fn print_met(met: &Met) {
         );
     }
     print_counts("images  ", &met.images, false);
+    println!("at the limits");
+    met.sorts.print();
 }

@@ -11,10 +11,20 @@ use common::{bytes, file, hex, read_lines};
 /// The bytes of a line of 3 MB.
 const LONG: usize = 1_500_000;
 
+/// The program's address space, in units of 1,024 bytes.
+const MEMORY: usize = 8_192;
+
+// Paper 02, 5.
+const LONGEST_CHAIN: usize = 16_384;
+const LARGEST_IMAGE: usize = 61_440;
+
 /// What the program writes of an input that comes in pieces.
 fn written(input: &[u8], piece: usize) -> Vec<u8> {
     let program = file("target/bin/make_image");
-    let mut child = Command::new(&program)
+    let mut child = Command::new("sh")
+        .args(["-c", "ulimit -v $1 && exec \"$0\""])
+        .arg(&program)
+        .arg(MEMORY.to_string())
         .stdin(Stdio::piped())
         .stdout(Stdio::piped())
         .spawn()
@@ -43,11 +53,11 @@ fn vectors() {
         let (input, expected) = line.split_once(' ').expect("an input and an output");
         let found = hex(&written(&bytes(input), at));
         if found != expected {
-            faults.push(format!("request-1-program.txt:{at}: found {found}, expected {expected}"));
+            faults.push(format!("request-5-program.txt:{at}: found {found}, expected {expected}"));
         }
         lines += 1;
     }
-    println!("request-1-program.txt: {lines} lines, {} faults", faults.len());
+    println!("request-5-program.txt: {lines} lines, {} faults", faults.len());
     assert!(faults.is_empty(), "{}", faults.join("\n"));
     assert!(lines > 0, "no lines");
 }
@@ -104,9 +114,19 @@ fn identity() -> Record {
     (1, vec![31, 2, 8])
 }
 
-/// The longest chain, 4,096 bytes.
-fn chain(slot: u8) -> Record {
-    (2, [&[slot; 65][..], &[0x00, 0x10], &[slot; 4_094]].concat())
+/// A chain whose own length is that of its bytes.
+fn chain(slot: u8, length: usize) -> Record {
+    let own = u16::try_from(length).expect("a chain's length").to_le_bytes();
+    (2, [&[slot; 65][..], &own, &vec![slot; length - own.len()]].concat())
+}
+
+/// As many as an image may hold.
+fn measurements() -> impl Iterator<Item = Record> {
+    (208..240).map(|index| (3, [&[index, 3][..], &[index; 64]].concat()))
+}
+
+fn summaries() -> Record {
+    (4, vec![4; 128])
 }
 
 fn text(records: &[Record]) -> String {
@@ -125,26 +145,79 @@ fn image(records: &[Record]) -> Vec<u8> {
     image
 }
 
+/// Three of the longest chains and one as long as the image then has room for, or `more`.
+fn large(more: usize) -> Vec<Record> {
+    let mut records = vec![identity()];
+    records.extend((0..3).map(|slot| chain(slot, LONGEST_CHAIN)));
+    records.push(chain(3, 9_670 + more));
+    records.extend(measurements());
+    records.push(summaries());
+    records
+}
+
 #[test]
 fn largest_image() {
-    let mut records = vec![identity()];
-    records.extend((0..8).map(chain));
-    records.extend((208..240).map(|index| (3, [&[index, 3][..], &[index; 64]].concat())));
-    records.push((4, vec![4; 128]));
+    let records = large(0);
     let expected = image(&records);
-    assert_eq!(expected.len(), 35_658);
+    assert_eq!(expected.len(), LARGEST_IMAGE);
     assert_eq!(hex(&written(text(&records).as_bytes(), 5_000)), hex(&expected));
-    // One byte more in the last chain, whose own length goes along.
-    let last = &mut records[8].1;
-    last[65] = 1;
-    last.push(0);
+    let records = large(1);
+    assert_eq!(image(&records).len(), LARGEST_IMAGE + 1);
+    assert_eq!(number(&text(&records)), "1");
+}
+
+#[test]
+fn longest_chain() {
+    let records = [identity(), chain(0, LONGEST_CHAIN)];
+    assert_eq!(hex(&written(text(&records).as_bytes(), 5_000)), hex(&image(&records)));
+    assert_eq!(number(&text(&[identity(), chain(0, LONGEST_CHAIN + 1)])), "6");
+    // Too long as a whole, and yet the chain's number.
+    let mut records = large(0);
+    records[4] = chain(3, LONGEST_CHAIN + 1);
+    assert_eq!(number(&text(&records)), "6");
+}
+
+/// A fault behind the image's limit has its own number.
+#[test]
+fn too_long_and_a_fault() {
+    let mut too_long = vec![identity()];
+    too_long.extend((0..7).map(|slot| chain(slot, LONGEST_CHAIN)));
+    assert_eq!(number(&text(&too_long)), "1");
+    let mut unequal = chain(7, LONGEST_CHAIN);
+    unequal.1[65] ^= 1;
+    let faults: [(&[Record], &str); 8] = [
+        (&[(5, vec![])], "4"),
+        (&[(3, vec![1; 66])], "4"), // no summaries
+        (&[chain(7, 69), chain(8, 69)], "5"),
+        (&[chain(7, LONGEST_CHAIN + 1)], "6"),
+        (&[(3, vec![1; 65])], "6"),
+        (&[chain(6, 69)], "7"),
+        (&[(3, vec![240; 66])], "7"),
+        (&[unequal], "8"),
+    ];
+    for (fault, expected) in faults {
+        assert_eq!(number(&text(&[&too_long, fault].concat())), expected);
+    }
+    // In the record that reaches past the limit.
+    let mut records = large(1);
+    records.pop();
+    records.push((4, vec![4; 129]));
     assert_eq!(number(&text(&records)), "6");
 }
 
 /// Slots 0 to 7, then others: the ninth chain is one too many.
 #[test]
 fn many_lines() {
-    let mut records = vec![identity()];
-    records.extend((0..100_000u32).map(|i| (2, [&[i as u8; 65][..], &[69, 0], &[0; 67]].concat())));
-    assert_eq!(number(&text(&records)), "5");
+    for (lines, length) in [(100_000, 69), (600, LONGEST_CHAIN)] {
+        let mut records = vec![identity()];
+        records.extend((0..lines).map(|line: u32| chain(line as u8, length)));
+        assert_eq!(number(&text(&records)), "5");
+    }
+}
+
+/// A record as long as all of the program's address space.
+#[test]
+fn line_of_any_length() {
+    let line = "02".repeat(1_024 * MEMORY);
+    assert_eq!(number(&format!("01\n010e0004\n{line}\n")), "6");
 }

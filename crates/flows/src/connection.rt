@@ -5,6 +5,7 @@ use crate::show::print;
 use crate::show::print_bytes;
 use crate::show::print_number;
 use crate::signed::print_signed;
+use rules::Outcome;
 use rules::Reply;
 use rules::State;
 
@@ -50,7 +51,7 @@ const CERTIFICATE: u8 = 0x02;
 // A portion of a chain has at most so many bytes, and a chain at most so many portions.
 const PORTION: u16 = 1024;
 
-const PORTIONS: u16 = 4;
+const PORTIONS: u16 = 16;
 
 // Whose signature the state awaits, 0 for none.
 fn awaited(s: State) -> u32 {
@@ -87,6 +88,24 @@ fn finish(image: &[u8], s: State, transcript: &[u8], answer: &mut [u8]) -> State
     o.state
 }
 
+// Sends a request.
+pub fn exchange(
+    image: &[u8],
+    s: State,
+    transcript: &mut [u8; TRANSCRIPT],
+    answer: &mut [u8; ANSWER],
+    request: &[u8],
+) -> Outcome {
+    responder::respond(
+        image,
+        s,
+        transcript,
+        answer,
+        request,
+        b"the responder's nonce, 32 bytes.",
+    )
+}
+
 // Sends a request, finishes the answer if it is a signed one, and prints both.
 pub fn ask(
     image: &[u8],
@@ -100,14 +119,7 @@ pub fn ask(
     print(name);
     print(b" ");
     print_bytes(request);
-    let o = responder::respond(
-        image,
-        s,
-        transcript,
-        answer,
-        request,
-        b"the responder's nonce, 32 bytes.",
-    );
+    let o = exchange(image, s, transcript, answer, request);
     if awaited(o.state) != 0 {
         return finish(image, o.state, transcript, answer);
     }
@@ -180,7 +192,7 @@ pub fn challenge(
 }
 
 // Whether nothing is left to read behind an answer: it is no CERTIFICATE, or its remainder is 0.
-fn read_whole(answer: &[u8]) -> bool {
+pub fn read_whole(answer: &[u8]) -> bool {
     if wire::byte_at(answer, 1) != CERTIFICATE {
         return true;
     }

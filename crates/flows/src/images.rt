@@ -1,7 +1,12 @@
 // The images that the flows run on, put together record by record. All have CTExponent 14, SHA-256 and P-256.
 
+// The bytes of the longest chain, and of those behind its own length and two reserved bytes.
+pub const LONGEST: u16 = 16384;
+
+const LONGEST_REST: u16 = LONGEST - 4;
+
 // Puts bytes from a place on, and answers where they end.
-fn put(out: &mut [u8], at: usize, bytes: &[u8]) -> usize {
+pub fn put(out: &mut [u8], at: usize, bytes: &[u8]) -> usize {
     wire::copy_into(out, at, bytes);
     if usize::MAX - at < bytes.len() {
         return at;
@@ -68,7 +73,7 @@ pub fn bench(out: &mut [u8]) -> usize {
 pub fn full(out: &mut [u8]) -> usize {
     let slot0 = put_identity(out);
     let slot2 = put_chain(out, slot0, 0, 33);
-    let slot7 = put_chain(out, slot2, 2, 4092);
+    let slot7 = put_chain(out, slot2, 2, LONGEST_REST);
     let first = put_chain(out, slot7, 7, 1020);
     let second = put_measurement(out, first, 1, 0);
     let third = put_measurement(out, second, 16, 3);
@@ -80,4 +85,10 @@ pub fn full(out: &mut [u8]) -> usize {
 pub fn smallest(out: &mut [u8]) -> usize {
     let chain = put_identity(out);
     put_chain(out, chain, 0, 33)
+}
+
+// Slot 0 with the longest chain.
+pub fn longest(out: &mut [u8]) -> usize {
+    let chain = put_identity(out);
+    put_chain(out, chain, 0, LONGEST_REST)
 }

@@ -1,8 +1,9 @@
 // Runs flows on the responder and prints each request with its answer: those of the paper that are not in its list, and those
 // of source document 004, with each version that VERSION has and the flow is for: 6.1 to 6.3 are for 1.0 and 1.1, 6.4 to 6.6
-// for any, the others for 1.2.
+// for any, the others for 1.2. Of paper 02's reading by 34 bytes it prints what the reads come to.
 mod connection;
 mod images;
+mod reading;
 mod show;
 mod signed;
 
@@ -18,17 +19,18 @@ use connection::VERSION_12;
 use connection::ask;
 use connection::challenge;
 use connection::run;
+use reading::paper_longest;
 use rules::State;
 use show::print;
 use show::print_number;
 use show::print_sum;
 
 // The buffers that are lent: the transcript, an answer, and room for an image.
-const TRANSCRIPT: usize = 16384;
+const TRANSCRIPT: usize = 36864;
 
 const ANSWER: usize = 4608;
 
-const IMAGE: usize = 6000;
+const IMAGE: usize = 18000;
 
 const SLOTS: u8 = 8;
 
@@ -358,6 +360,7 @@ fn main() {
     let n = images::bench(&mut space);
     paper_challenge(wire::part_of(&space, 0, n));
     paper_smallest();
+    paper_longest();
     source_flows(wire::part_of(&space, 0, n));
     let m = images::full(&mut space);
     source_flows(wire::part_of(&space, 0, m));

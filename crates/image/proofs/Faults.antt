@@ -65,13 +65,13 @@ behindSummary b = behindMeasurement (summary 64 ++ b)
 abbrev none : List ℕ
 none = []
 
--- "image empty or over 36,864"; 1 before 2
+-- "image empty or over" 61,440; 1 before 2
 abbrev ones : List (List ℕ)
-ones = none ∷ replicate 36865 0 ∷ replicate 36865 1 ∷ []
+ones = none ∷ replicate 61441 0 ∷ replicate 61441 1 ∷ []
 
 -- "byte 0 is not 1"; 2 before 3: a head is broken off too; an image of the limit is not too long
 abbrev twos : List (List ℕ)
-twos = (0 ∷ none) ∷ (2 ∷ (identity 14 0 4 ++ chain 0 37)) ∷ (255 ∷ none) ∷ (0 ∷ 1 ∷ none) ∷ replicate 36864 0 ∷ []
+twos = (0 ∷ none) ∷ (2 ∷ (identity 14 0 4 ++ chain 0 37)) ∷ (255 ∷ none) ∷ (0 ∷ 1 ∷ none) ∷ replicate 61440 0 ∷ []
 
 -- "1 or 2 bytes left for a record head, or body runs past the end"; 3 before 4: a kind unknown or out of sequence whose body does, a head
 -- broken off where a summary is missing
@@ -112,7 +112,7 @@ foursFirst =
 abbrev fives : List (List ℕ)
 fives =
     behind (chains 0 8 ++ chain 8 37) ∷ behindChain (measurements 1 32 ++ measurement 33 1 32)
-    ∷ behind (chains 0 8 ++ chain 8 36) ∷ behind (chains 0 8 ++ chain 8 4097) ∷ behindChain (measurements 1 32 ++ measurement 33 1 31)
+    ∷ behind (chains 0 8 ++ chain 8 36) ∷ behind (chains 0 8 ++ chain 8 16385) ∷ behindChain (measurements 1 32 ++ measurement 33 1 31)
     ∷ behind (chains 0 8 ++ chain 0 37) ∷ behindChain (measurements 1 32 ++ measurement 0 4 32)
     ∷ behind (chains 0 8 ++ saying 7 37 38) ∷ behind (chains 0 8 ++ (chain 8 37 ++ (0 ∷ none)))
     ∷ behindChain (measurements 1 32 ++ (measurement 33 1 32 ++ chain 1 37))
@@ -122,7 +122,7 @@ fives =
 abbrev sixes : List (List ℕ)
 sixes =
     (1 ∷ laid 1 none) ∷ (1 ∷ laid 1 (14 ∷ 0 ∷ none)) ∷ (1 ∷ laid 1 (14 ∷ 0 ∷ 4 ∷ 0 ∷ none))
-    ∷ behind (laid 2 none) ∷ behind (laid 2 (0 ∷ none)) ∷ behind (chain 0 36) ∷ behind (chain 0 4097) ∷ behindChain (chain 1 36)
+    ∷ behind (laid 2 none) ∷ behind (laid 2 (0 ∷ none)) ∷ behind (chain 0 36) ∷ behind (chain 0 16385) ∷ behindChain (chain 1 36)
     ∷ behindChain (laid 3 none) ∷ behindChain (measurement 7 1 31) ∷ behindChain (measurement 7 1 33)
     ∷ behindMeasurement (measurement 8 1 31) ∷ behindMeasurement (laid 4 none) ∷ behindMeasurement (summary 32)
     ∷ behindMeasurement (summary 63) ∷ behindMeasurement (summary 65)
@@ -133,9 +133,9 @@ sixes =
 abbrev sixesFirst : List (List ℕ)
 sixesFirst =
     (1 ∷ laid 1 (32 ∷ 0 ∷ none)) ∷ (1 ∷ laid 1 (14 ∷ 6 ∷ 4 ∷ 0 ∷ none)) ∷ (1 ∷ laid 1 (14 ∷ 0 ∷ 9 ∷ 0 ∷ none))
-    ∷ behind (chain 9 36) ∷ behind (chain 9 4097) ∷ behind (chain 1 36) ∷ behind (chain 1 4097)
-    ∷ behindChain (chain 9 4097) ∷ behindChain (chain 0 36) ∷ behindChain (chain 0 4097)
-    ∷ behind (saying 0 36 37) ∷ behind (saying 0 4097 4096)
+    ∷ behind (chain 9 36) ∷ behind (chain 9 16385) ∷ behind (chain 1 36) ∷ behind (chain 1 16385)
+    ∷ behindChain (chain 9 16385) ∷ behindChain (chain 0 36) ∷ behindChain (chain 0 16385)
+    ∷ behind (saying 0 36 37) ∷ behind (saying 0 16385 16384)
     ∷ behindChain (measurement 0 1 31) ∷ behindChain (measurement 240 1 33) ∷ behindChain (measurement 7 4 31)
     ∷ behindMeasurement (measurement 7 1 33) ∷ (1 ∷ (laid 1 none ++ (0 ∷ none))) ∷ behindMeasurement (summary 63 ++ chain 1 37)
     ∷ behind (chains 0 7 ++ (chain 7 36 ++ (chain 7 37 ++ chain 7 37)))
@@ -165,7 +165,7 @@ sevensFirst =
 abbrev eights : List (List ℕ)
 eights =
     behind (saying 0 37 36) ∷ behind (saying 0 37 38) ∷ behind (saying 0 37 293) ∷ behind (saying 0 37 9472)
-    ∷ behind (saying 0 300 44) ∷ behind (saying 0 4096 4095) ∷ behindChain (saying 1 38 37)
+    ∷ behind (saying 0 300 44) ∷ behind (saying 0 16384 16383) ∷ behindChain (saying 1 38 37)
     ∷ behind (saying 0 37 38 ++ (0 ∷ none)) ∷ behind (saying 0 37 38 ++ laid 9 none)
     ∷ behind (saying 0 37 38 ++ chain 1 36) ∷ behind (saying 0 37 38 ++ chain 0 37)
     ∷ []
@@ -228,7 +228,7 @@ some = record {
   summaries = aSummary 48 ∷ [];
 }
 
--- all that an image can hold: 8 chains, one of 4,096 bytes, and 32 measurements
+-- all that an image can hold: 8 chains, one of 16,384 bytes, and 32 measurements
 abbrev slotsFrom : ℕ → ℕ → List Chain
 slotsFrom k zero = []
 slotsFrom k (suc n) = aChain 64 k 69 ∷ slotsFrom (k + 1) n
@@ -240,7 +240,7 @@ indicesFrom i (suc n) = aMeasurement 64 i (i % 4) ∷ indicesFrom (i + 1) n
 abbrev full : Contents
 full = record {
   identity = record { exponent = 14; hash = 2; signature = 8 };
-  chains = aChain 64 0 4096 ∷ slotsFrom 1 7;
+  chains = aChain 64 0 16384 ∷ slotsFrom 1 7;
   measurements = indicesFrom 208 32;
   summaries = aSummary 64 ∷ [];
 }
@@ -303,7 +303,7 @@ held c = record {
 abbrev lookedUp : List ℕ → Index → Lookups
 lookedUp b ix = record {
   digests = map (digestAt b ix) slots;
-  chains = map (λ (k : ℕ). chainPartAt b ix k 0 4096) slots;
+  chains = map (λ (k : ℕ). chainPartAt b ix k 0 16384) slots;
   lengths = map (chainLengthAt b ix) slots;
   mask = maskAt ix;
   nth = map (nthAt b ix) firstFour;
@@ -355,8 +355,8 @@ fullIndex = record {
   identity = full .identity;
   chains = 8;
   measurements = 32;
-  places = 10 ∷ 4174 ∷ 4311 ∷ 4448 ∷ 4585 ∷ 4722 ∷ 4859 ∷ 4996 ∷ [];
-  first = 5133;
+  places = 10 ∷ 16462 ∷ 16599 ∷ 16736 ∷ 16873 ∷ 17010 ∷ 17147 ∷ 17284 ∷ [];
+  first = 17421;
 }
 
 abbrev leastIndex : Index

@@ -1,9 +1,9 @@
--- The provisioning image's limits, kinds and refusal numbers, as paper 01 gives them.
+-- The provisioning image's limits, kinds and refusal numbers, as papers 01 and 02 give them.
 use Prim.Native.Nat.{ℕ, _+_}
 
--- "At most 36,864 bytes. Byte 0 is version 1. Then records, each: body length (2 bytes), kind (1), body."
+-- paper 02, 5: "Raise .. the image limit to 61,440". "Byte 0 is version 1. Then records, each: body length (2 bytes), kind (1), body."
 abbrev pub imageLimit : ℕ
-imageLimit = 36864
+imageLimit = 61440
 
 abbrev pub imageVersion : ℕ
 imageVersion = 1
@@ -41,7 +41,7 @@ hashLimit = 5
 abbrev pub signatureLimit : ℕ
 signatureLimit = 8
 
--- kind 2: "slot 0–7 .. 1–8"; "A chain has 5+H to 4,096 bytes"
+-- kind 2: "slot 0–7 .. 1–8"; "A chain has 5+H to" .. paper 02, 5: "Raise the chain limit from 4,096 to 16,384"
 abbrev pub slotLimit : ℕ
 slotLimit = 7
 
@@ -59,7 +59,7 @@ abbrev pub chainLeast : ℕ → ℕ
 chainLeast h = 5 + h
 
 abbrev pub chainLimit : ℕ
-chainLimit = 4096
+chainLimit = 16384
 
 -- kind 3: "index 1–239, type 0–3 .. 0–32"
 abbrev pub indexLimit : ℕ
@@ -75,7 +75,7 @@ typeLimit = 3
 abbrev pub measurementsLimit : ℕ
 measurementsLimit = 32
 
--- "image empty or over 36,864"
+-- "image empty or over" the limit
 abbrev pub wrongSize : ℕ
 wrongSize = 1
 

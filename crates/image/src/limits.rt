@@ -1,5 +1,5 @@
 // The paper's limits; specs/Limits.antt has each with its sentence.
-pub const IMAGE_LIMIT: usize = 36864;
+pub const IMAGE_LIMIT: usize = 61440;
 
 pub const IMAGE_VERSION: u8 = 1;
 
@@ -33,7 +33,7 @@ pub const CHAINS_LIMIT: u8 = 8;
 
 pub const CHAIN_LEAST: usize = 5;
 
-pub const CHAIN_LIMIT: usize = 4096;
+pub const CHAIN_LIMIT: usize = 16384;
 
 pub const INDEX_LIMIT: u8 = 239;
 

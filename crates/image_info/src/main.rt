@@ -34,7 +34,7 @@ fn print_digest(bytes: &[u8]) {
 // What the paper says of a number.
 fn print_meaning(number: u8) {
     match number {
-        1 => print(b"image empty or over 36864 bytes"),
+        1 => print(b"image empty or over 61440 bytes"),
         2 => print(b"byte 0 is not 1"),
         3 => print(b"1 or 2 bytes left for a record head, or body runs past the end"),
         4 => print(b"kind unknown or out of sequence, or a needed record missing"),

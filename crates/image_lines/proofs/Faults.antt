@@ -64,9 +64,9 @@ unfolding digestSize pick unless identityFault slotWrong chainFault measurementF
     readOn readAll recordBytes joined sized writing linesFrom digitOf decoded
 faults = refl
 
--- the first and last of 0 to 9, A to F, a to f, each with the characters beside them; room for a kind, 1+64+4,096 bytes and one more
+-- the first and last of 0 to 9, A to F, a to f, each with the characters beside them; room for a kind, 1+64+16,384 bytes and one more
 digits :
     map digitOf (47 ∷ 48 ∷ 57 ∷ 58 ∷ 64 ∷ 65 ∷ 70 ∷ 71 ∷ 96 ∷ 97 ∷ 102 ∷ 103 ∷ []) ++ (lineRoom ∷ [])
-    ≡ 16 ∷ 0 ∷ 9 ∷ 16 ∷ 16 ∷ 10 ∷ 15 ∷ 16 ∷ 16 ∷ 10 ∷ 15 ∷ 16 ∷ 4163 ∷ []
+    ≡ 16 ∷ 0 ∷ 9 ∷ 16 ∷ 16 ∷ 10 ∷ 15 ∷ 16 ∷ 16 ∷ 10 ∷ 15 ∷ 16 ∷ 16451 ∷ []
 unfolding digitOf pick
 digits = refl

@@ -63,7 +63,7 @@ editionBounds =
     ++ (outside second (idle (agree 2 4608 0) (uses 38 0 0))
     ∷ outside second (idle (speak 0x11 2 4608 0) (uses 38 1 0)) ∷ outside second (idle (speak 0x11 2 4608 0) (uses 38 0 1))
     ∷ outside second (idle (speak 0x11 2 4608 1) (uses 38 0 0))
-    ∷ map (within second) (capable11 ∷ ready11 ∷ idle (speak 0x11 3 4608 0) (uses 512 8192 7680) ∷ idle (agree 3 4609 0) (uses 0 0 0) ∷ []))))))))
+    ∷ map (within second) (capable11 ∷ ready11 ∷ idle (speak 0x11 3 4608 0) (uses 512 28672 7680) ∷ idle (agree 3 4609 0) (uses 0 0 0) ∷ []))))))))
 
 -- a GET_MEASUREMENTS that is too long; the codes of all requests but GET_VERSION; version bytes that are no edition's
 abbrev tooLong : ℕ → List ℕ

@@ -63,7 +63,7 @@ bench = record {
 
 -- buffers of just the length that is needed
 abbrev pub lent : Lengths
-lent = record { transcript = 16384; answer = 4608 }
+lent = record { transcript = 36864; answer = 4608 }
 
 abbrev pub ask : List ℕ → Feed
 ask r = request (imageBytes bench) lent r nonce

@@ -1,6 +1,6 @@
 -- Host numbers 11 to 16 in their order, the state's bounds, the steps in theirs, and every limit from both sides, as flows; with those of
--- OtherImages and EditionFlows they are one claim, which the plain box computes. Beside it the table of steps. A definition that says another number fails
--- here. Assumes nothing.
+-- OtherImages and EditionFlows they are one claim, which the plain box computes. Beside it the table of steps, and the parts' places and
+-- limits. A definition that says another number fails here. Assumes nothing.
 use mathlib.Core.Path.{_≡_, refl}
 use mathlib.Core.Bool.{true, false}
 use mathlib.Core.List.{List, [], _∷_, _++_, map}
@@ -12,7 +12,9 @@ use Rattle.image.specs.Contents.{Contents, recordBytes, recordsBytes, identityB
 use Rattle.image.specs.Reading.{unless, framesOf, identityFault, slotWrong, chainFault, measurementFault, summaryFault, recordFault}
 use Rattle.image.specs.Reading.{endFault, extended, readOn, readAll, reading}
 use Rattle.image.specs.Held.{chainFor, maskOf, measurementFor}
+use Rattle.rules.specs.Limits.{transcriptLength}
 use Rattle.rules.specs.Facts.{factsOf}
+use Rattle.rules.specs.Parts.{startOf, limitOf}
 use Rattle.rules.specs.State.{holdsOnly, phaseFits, selectionFits, awaitedFits, editionFits, ownBounds, selectionHeld}
 use Rattle.rules.specs.State.{awaitedLong, inBounds}
 use Rattle.rules.specs.Header.{versionOf, refusedBytes}
@@ -29,7 +31,9 @@ use Rattle.rules.specs.Messages.{messageBytes}
 use Rattle.rules.specs.Decisions.{lastSteps, requestDecision, decisionOf}
 use Rattle.rules.specs.Effects.{effectOf, effectBy}
 use Rattle.rules.specs.Signing.{prefixOf, toHash, finishOf, finishBy}
-use Rattle.rules.specs.Plain.{Plain, Feed, request, finishing, stateOf, plainSaid, plainNext}
+use Rattle.rules.specs.Plain.{Plain, Feed, request, finishing, Said, stateOf, plainSaid, plainNext}
+use Rattle.rules.specs.declared.Part.{Part}
+use Rattle.rules.specs.declared.Part.the-variants.{A, B, M}
 use Rattle.rules.specs.declared.Used.{Used}
 use Rattle.rules.specs.declared.State.{State}
 use Rattle.rules.specs.declared.Lengths.{Lengths}
@@ -73,16 +77,16 @@ finished image l = finishing image l true []
 abbrev pub numberFlows : List Claim
 numberFlows =
     stays lost
-    (asked wrongImage (lending 16383 4607) (rising 1 33) ∷ asked (imageBytes second) (lending 16383 4607) (rising 1 33)
-    ∷ asked (imageBytes second) (lending 16383 4608) (rising 1 33) ∷ asked (imageBytes second) (lending 16384 4608) (rising 1 33)
-    ∷ asked (imageBytes second) (lending 16384 4608) (rising 1 31) ∷ asked (imageBytes second) (lending 16384 4608) (rising 1 32)
+    (asked wrongImage (lending 36863 4607) (rising 1 33) ∷ asked (imageBytes second) (lending 36863 4607) (rising 1 33)
+    ∷ asked (imageBytes second) (lending 36863 4608) (rising 1 33) ∷ asked (imageBytes second) (lending 36864 4608) (rising 1 33)
+    ∷ asked (imageBytes second) (lending 36864 4608) (rising 1 31) ∷ asked (imageBytes second) (lending 36864 4608) (rising 1 32)
     ∷ [])
     (map telling (2 ∷ 11 ∷ 12 ∷ 13 ∷ 13 ∷ 14 ∷ []))
     ∷ stays lost
-    (finished wrongImage (lending 16383 4607) ∷ finished (imageBytes second) (lending 16383 4607)
-    ∷ finished (imageBytes second) (lending 16383 4608) ∷ finished (imageBytes second) (lending 16384 4608) ∷ [])
+    (finished wrongImage (lending 36863 4607) ∷ finished (imageBytes second) (lending 36863 4607)
+    ∷ finished (imageBytes second) (lending 36863 4608) ∷ finished (imageBytes second) (lending 36864 4608) ∷ [])
     (map telling (2 ∷ 11 ∷ 12 ∷ 14 ∷ []))
-    ∷ stays fresh (finished (imageBytes second) (lending 16384 4608) ∷ finishes second false [] ∷ []) (map telling (15 ∷ 15 ∷ []))
+    ∷ stays fresh (finished (imageBytes second) (lending 36864 4608) ∷ finishes second false [] ∷ []) (map telling (15 ∷ 15 ∷ []))
     -- S is 96, and 64 on the bench; of a chip that failed the signature is not looked at
     ∷ leads counting
     (finishes second true (rising 1 95) ∷ finishes second true (rising 1 97) ∷ finishes second true []
@@ -90,7 +94,7 @@ numberFlows =
     (map telling (16 ∷ 16 ∷ 16 ∷ 16 ∷ []) ++ (saying (refused 0x05 0) ∷ []))
     (idle (agree 3 4608 1) (uses 0 0 0))
     -- longer buffers do
-    ∷ leads fresh (request (imageBytes second) (lending 16385 4609) getVersion nonce ∷ []) (saying version ∷ []) versioned
+    ∷ leads fresh (request (imageBytes second) (lending 36865 4609) getVersion nonce ∷ []) (saying version ∷ []) versioned
     ∷ []
 
 -- a state out of its bounds that says that a signature is awaited: what is to be signed is shown all the same
@@ -110,8 +114,8 @@ boundFlows =
     map (λ (u : Used). outside second (idle (agree 0 0 0) u)) (uses 1 0 0 ∷ uses 0 1 0 ∷ uses 0 0 1 ∷ [])
     ++ (map (λ (u : Used). outside second (idle (agree 1 0 0) u)) (uses 13 0 0 ∷ uses 15 0 0 ∷ uses 14 1 0 ∷ uses 14 0 1 ∷ [])
     ++ (map (λ (u : Used). outside second (idle (agree 2 42 0) u)) (uses 53 0 0 ∷ uses 55 0 0 ∷ uses 54 1 0 ∷ uses 54 0 1 ∷ [])
-    -- "A, B, M use at most 512, 8,192, 7,680"
-    ++ (map (λ (u : Used). outside second (idle (agree 3 42 1) u)) (uses 513 0 0 ∷ uses 0 8193 0 ∷ uses 0 0 7681 ∷ [])
+    -- "A, B, M use at most 512," 28,672, "7,680"
+    ++ (map (λ (u : Used). outside second (idle (agree 3 42 1) u)) (uses 513 0 0 ∷ uses 0 28673 0 ∷ uses 0 0 7681 ∷ [])
     ++ (map (outside second)
     -- "phase 0–3; phase 2 or 3 has peer size at least 42"
     (idle (agree 4 4608 0) (uses 0 0 0) ∷ idle (agree 2 41 0) (uses 54 0 0) ∷ idle (agree 3 41 0) (uses 122 0 0)
@@ -121,7 +125,7 @@ boundFlows =
     -- and all of them met
     ++ (map (within second)
     (fresh ∷ versioned ∷ idle (agree 2 42 0) (uses 54 0 0) ∷ idle (agree 3 42 0) (uses 0 0 0)
-    ∷ idle (agree 3 42 1) (uses 512 8192 7680)
+    ∷ idle (agree 3 42 1) (uses 512 28672 7680)
     -- not bounded: a peer's size before there is one, and the length of an answer that nobody awaits
     ∷ idle (agree 0 7 0) (uses 0 0 0) ∷ idle (agree 1 7 0) (uses 14 0 0) ∷ waits (agree 3 42 0) (uses 0 0 0) 0 7 ∷ [])
     -- ".. and only if the image has a kind 3"
@@ -185,27 +189,27 @@ stepFlows =
 abbrev pub roomFlows : List Claim
 roomFlows =
     -- a byte too few for the answer; the first time B has no room either
-    refusing second (idle (agree 3 147 1) (uses 122 8192 0)) (getDigests ∷ []) (tooLarge 148 ∷ [])
+    refusing second (idle (agree 3 147 1) (uses 122 28672 0)) (getDigests ∷ []) (tooLarge 148 ∷ [])
     ∷ refusing second (idle (agree 3 181 1) (uses 122 0 0)) (challenge 2 0 ∷ []) (tooLarge 182 ∷ [])
     ∷ refusing second (idle (agree 3 229 1) (uses 122 0 0)) (challenge 2 1 ∷ []) (tooLarge 230 ∷ [])
     ∷ refusing second (idle (agree 3 412 1) (uses 122 0 0)) (getMeasurements 1 0xFF 2 ∷ []) (tooLarge 413 ∷ [])
     ∷ refusing second (idle (agree 3 96 1) (uses 122 0 0)) (getUnsigned 17 ∷ []) (tooLarge 97 ∷ [])
     -- just room enough: the answer has the peer's size, or its last byte is the last of B or M
-    ∷ answering second (idle (agree 3 148 1) (uses 122 8040 0)) (getDigests ∷ []) (digests ∷ [])
-    (idle (agree 3 148 1) (uses 122 8192 0))
-    ∷ answering second (idle (agree 3 4608 1) (uses 122 8125 0)) (getCertificate 3 2 0xFFFF ∷ [])
+    ∷ answering second (idle (agree 3 148 1) (uses 122 28520 0)) (getDigests ∷ []) (digests ∷ [])
+    (idle (agree 3 148 1) (uses 122 28672 0))
+    ∷ answering second (idle (agree 3 4608 1) (uses 122 28605 0)) (getCertificate 3 2 0xFFFF ∷ [])
     (certificate 3 0 (bytes 102 51) ∷ [])
-    (idle (agree 3 4608 1) (uses 122 8192 0))
-    ∷ signing (idle (agree 3 182 1) (uses 0 8070 0)) (asks second (challenge 2 0) ∷ []) (saying (unsigned 96 (challenged2 [])) ∷ [])
-    challengePrefix (replicate 8070 0 ∷ challenge 2 0 ∷ challenged2 [] ∷ []) (waits (agree 3 182 1) (uses 0 8192 0) 1 182)
+    (idle (agree 3 4608 1) (uses 122 28672 0))
+    ∷ signing (idle (agree 3 182 1) (uses 0 28550 0)) (asks second (challenge 2 0) ∷ []) (saying (unsigned 96 (challenged2 [])) ∷ [])
+    challengePrefix (replicate 28550 0 ∷ challenge 2 0 ∷ challenged2 [] ∷ []) (waits (agree 3 182 1) (uses 0 28672 0) 1 182)
     ∷ signing (idle (agree 3 413 1) (uses 0 0 7326)) (asks second (getMeasurements 1 0xFF 2) ∷ [])
     (saying (unsigned 96 (measurements 0 2 5 allBlocks)) ∷ [])
     measurementsPrefix (replicate 7326 0 ∷ getMeasurements 1 0xFF 2 ∷ measurements 0 2 5 allBlocks ∷ [])
     (waits (agree 3 413 1) (uses 0 0 7680) 2 413)
     -- a byte more in B or M; paper 02, 3: M is emptied then
-    ∷ refusing second (idle (agree 3 4608 1) (uses 122 8041 0)) (getDigests ∷ []) (refused 0x05 0 ∷ [])
-    ∷ refusing second (idle (agree 3 4608 1) (uses 122 8126 0)) (getCertificate 3 2 0xFFFF ∷ []) (refused 0x05 0 ∷ [])
-    ∷ refusing second (idle (agree 3 4608 1) (uses 122 8071 0)) (challenge 2 0 ∷ []) (refused 0x05 0 ∷ [])
+    ∷ refusing second (idle (agree 3 4608 1) (uses 122 28521 0)) (getDigests ∷ []) (refused 0x05 0 ∷ [])
+    ∷ refusing second (idle (agree 3 4608 1) (uses 122 28606 0)) (getCertificate 3 2 0xFFFF ∷ []) (refused 0x05 0 ∷ [])
+    ∷ refusing second (idle (agree 3 4608 1) (uses 122 28551 0)) (challenge 2 0 ∷ []) (refused 0x05 0 ∷ [])
     ∷ answering second (idle (agree 3 4608 1) (uses 122 7 7327)) (getMeasurements 1 0xFF 2 ∷ []) (refused 0x05 0 ∷ [])
     (idle (agree 3 4608 1) (uses 122 7 0))
     ∷ []
@@ -231,7 +235,7 @@ rows =
     ∷ row ready (brief 0x12 0xE1) (Refused 6 0x04 0 0)
     ∷ row ready (challenge 1 0) (Refused 7 0x01 0 0)
     ∷ row (idle (agree 3 42 1) (uses 122 0 0)) getDigests (Refused 8 0x0D 0 148)
-    ∷ row (idle (agree 3 4608 1) (uses 122 8192 0)) getDigests (Refused 9 0x05 0 0)
+    ∷ row (idle (agree 3 4608 1) (uses 122 28672 0)) getDigests (Refused 9 0x05 0 0)
     ∷ []
 
 pub table : map (λ (x : Row). requestDecision (factsOf second) (x .state) (x .request)) rows ≡ map (λ (x : Row). x .decision) rows
@@ -240,22 +244,32 @@ unfolding pick digestSize signatureSize chainFor versionOf kindOf mustWait serve
     digestsDecision challengeDecision lastSteps requestDecision
 table = refl
 
+abbrev parts : List Part
+parts = A ∷ B ∷ M ∷ []
+
+-- "A in bytes 0–511, B from 512," M from 29,184, what each may hold, and the buffer that they need
+places : map startOf parts ++ (map limitOf parts ++ (transcriptLength ∷ [])) ≡ 0 ∷ 512 ∷ 29184 ∷ 512 ∷ 28672 ∷ 7680 ∷ 36864 ∷ []
+places = refl
+
 abbrev pub all : List Claim
 all = imageFlows ++ (numberFlows ++ (boundFlows ++ (awaitedFlows ++ (stepFlows ++ (roomFlows ++ editionFlows)))))
 
 abbrev pub hashedBy : Plain → List ℕ
 hashedBy p = toHash (p .negotiated) (p .whose) (p .parts)
 
--- what the plain box gives in place of what is expected
-abbrev pub computed : Claim → Claim
-computed f = record {
+-- what the plain box gives in place of what is expected: what it said, and what it is then, each computed once
+abbrev pub given : Claim → List Said → Plain → Claim
+given f said p = record {
   from = f .from;
   calls = f .calls;
-  said = saidFrom (boxIn (f .from)) (f .calls);
-  prefix = prefixOf (after (boxIn (f .from)) (f .calls) .negotiated) (after (boxIn (f .from)) (f .calls) .whose);
-  hashed = hashedBy (after (boxIn (f .from)) (f .calls));
-  to = stateOf (after (boxIn (f .from)) (f .calls));
+  said = said;
+  prefix = prefixOf (p .negotiated) (p .whose);
+  hashed = hashedBy p;
+  to = stateOf p;
 }
+
+abbrev pub computed : Claim → Claim
+computed f = given f (saidFrom (boxIn (f .from)) (f .calls)) (after (boxIn (f .from)) (f .calls))
 
 pub settled : map computed all ≡ all
 unfolding pick unless framesOf identityFault slotWrong chainFault measurementFault summaryFault recordFault endFault extended readOn readAll

@@ -1,19 +1,20 @@
--- The responder's limits, steps, codes and host numbers, as paper 01 gives them.
+-- The responder's limits, steps, codes and host numbers, as papers 01 and 02 give them.
 use Prim.Native.Nat.{ℕ}
 
 -- "answer buffer under 4,608"; a request "over 4,608 bytes"; "both sizes 4,608"
 abbrev pub messageLimit : ℕ
 messageLimit = 4608
 
--- "transcript buffer under 16,384": "A in bytes 0–511, B from 512, M from 8,704"; "A, B, M use at most 512, 8,192, 7,680"
+-- "A in bytes 0–511, B from 512"; "A, B, M use at most 512, .., 7,680"; paper 02, 5: "Raise .. B to 28,672; the transcript buffer becomes
+-- 36,864 with M from 29,184"
 abbrev pub transcriptLength : ℕ
-transcriptLength = 16384
+transcriptLength = 36864
 
 abbrev pub aLimit : ℕ
 aLimit = 512
 
 abbrev pub bLimit : ℕ
-bLimit = 8192
+bLimit = 28672
 
 abbrev pub mLimit : ℕ
 mLimit = 7680
@@ -25,7 +26,7 @@ abbrev pub bStart : ℕ
 bStart = 512
 
 abbrev pub mStart : ℕ
-mStart = 8704
+mStart = 29184
 
 -- "nonce not 32 bytes"
 abbrev pub nonceLength : ℕ

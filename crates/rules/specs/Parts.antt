@@ -12,13 +12,13 @@ use Rattle.rules.specs.declared.Part.{Part}
 use Rattle.rules.specs.declared.Part.the-variants.{A, B, M}
 use Rattle.rules.specs.declared.Used.{Used}
 
--- "Transcript buffer: A in bytes 0–511, B from 512, M from 8,704"
+-- "Transcript buffer: A in bytes 0–511, B from 512, M from" 29,184 (paper 02, 5)
 abbrev pub startOf : Part → ℕ
 startOf A = aStart
 startOf B = bStart
 startOf M = mStart
 
--- "A, B, M use at most 512, 8,192, 7,680"
+-- "A, B, M use at most 512," 28,672 (paper 02, 5), "7,680"
 abbrev pub limitOf : Part → ℕ
 limitOf A = aLimit
 limitOf B = bLimit

@@ -1,11 +1,11 @@
 // The paper's limits and codes; specs/Limits.antt has each with its sentence.
 pub const MESSAGE_LIMIT: usize = 4608;
 
-pub const TRANSCRIPT_LENGTH: usize = 16384;
+pub const TRANSCRIPT_LENGTH: usize = 36864;
 
 pub const A_LIMIT: u32 = 512;
 
-pub const B_LIMIT: u32 = 8192;
+pub const B_LIMIT: u32 = 28672;
 
 pub const M_LIMIT: u32 = 7680;
 
@@ -13,7 +13,7 @@ pub const A_START: usize = 0;
 
 pub const B_START: usize = 512;
 
-pub const M_START: usize = 8704;
+pub const M_START: usize = 29184;
 
 pub const NONCE_LENGTH: usize = 32;
 

@@ -84,9 +84,9 @@ asks-room = (refl, refl)
 pub shows-nothing : (shownPrefix (reply.Number 11) held ≡ []) × (shownParts (reply.Number 11) held ≡ [])
 shows-nothing = (refl, refl)
 
--- offset and length: A at 0, B at 512, M at 8,704; under 1.1 nothing before M
-pub parts-stand : (partsOf held ≡ 0 ∷ 88 ∷ 8704 ∷ 50 ∷ []) × ((partsOf (awaiting 1 0x12) ≡ 0 ∷ 88 ∷ 512 ∷ 40 ∷ [])
-    × ((partsOf (awaiting 2 0x11) ≡ 0 ∷ 0 ∷ 8704 ∷ 50 ∷ []) × (partsOf (awaiting 1 0x11) ≡ 0 ∷ 88 ∷ 512 ∷ 40 ∷ [])))
+-- offset and length: A at 0, B at 512, M at 29,184; under 1.1 nothing before M
+pub parts-stand : (partsOf held ≡ 0 ∷ 88 ∷ 29184 ∷ 50 ∷ []) × ((partsOf (awaiting 1 0x12) ≡ 0 ∷ 88 ∷ 512 ∷ 40 ∷ [])
+    × ((partsOf (awaiting 2 0x11) ≡ 0 ∷ 0 ∷ 29184 ∷ 50 ∷ []) × (partsOf (awaiting 1 0x11) ≡ 0 ∷ 88 ∷ 512 ∷ 40 ∷ [])))
 unfolding partsOf versionOf pick
 parts-stand = (refl, (refl, (refl, refl)))
 

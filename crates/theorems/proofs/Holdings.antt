@@ -25,7 +25,7 @@ each-short n k (x ∷ xs) e =
     pick-case (λ (y : Chain). length (y .bytes) ≤ chainLimit) (eqb (x .slot) k) x (chainFor k xs) (λ _. e .0 .most)
     (λ _. each-short n k xs (e .1))
 
--- "A chain has 5+H to 4,096 bytes"
+-- "A chain has 5+H to" 16,384 "bytes"
 pub chain-short : (c : Contents) → Valid c → (k : ℕ) → length (slotChain c k) ≤ chainLimit
 chain-short c v k = each-short (digestSize (c .identity .hash)) k (c .chains) (v .chains)
 

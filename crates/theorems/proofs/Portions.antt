@@ -15,7 +15,7 @@ use Rattle.rules.specs.Limits.{bLimit, peerLeast, certificateLayout, certificat
 use Rattle.rules.specs.Header.{codeByte}
 use Rattle.rules.specs.Certificate.{portionOf, certificateBytes}
 use Rattle.rules.specs.declared.Negotiated.{Negotiated}
-use Rattle.theorems.specs.Reads.{askedLeast, portionIn}
+use Rattle.theorems.specs.Reads.{askedLeast, readsMost, portionIn}
 use Rattle.theorems.proofs.Holdings.{digestsMost}
 
 -- a portion of x bytes that are left
@@ -62,7 +62,12 @@ readCost = certificateLayout + certificateHead
 abbrev pub Room : (b x : ℕ) → Type 0
 Room b x = askedLeast * b + (askedLeast + readCost) * x + askedLeast * readCost ≤ askedLeast * bLimit
 
--- "520 + 16·121 + 4,096": after GET_DIGESTS there is room for the longest chain
+-- "L/34 .., rounded up", of the longest chain; and what its reads and GET_DIGESTS take of B: 520 + 16·482 + 16,384
+longest-chain : ((chainLimit + (askedLeast - 1)) / askedLeast ≡ readsMost)
+    × ((digestsMost + readCost * readsMost + chainLimit ≡ 24616) × (digestsMost + readCost * readsMost + chainLimit ≤ bLimit))
+longest-chain = (refl, (refl, omega arith))
+
+-- after GET_DIGESTS there is room for the longest chain
 pub capacity : (b L : ℕ) → b ≤ digestsMost → L ≤ chainLimit → Room b (L - 0)
 capacity b L u s = omega arith
 

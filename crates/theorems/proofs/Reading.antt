@@ -27,7 +27,7 @@ use Rattle.rules.specs.declared.State.{State}
 use Rattle.rules.specs.declared.Lengths.{Lengths}
 use Rattle.rules.proofs.Ready.{added-length}
 use Rattle.theorems.specs.Runs.{Call, ask, sign, imageOf, requestIn, Held, lentOf, boxNext, boxSaid, boxRun, IsAccept, Accepts}
-use Rattle.theorems.specs.Reads.{Calls, sinceRestart, boxAfter, atRestart, atAlgorithms, atReads, Seen, seen, readsSeen, View, nothing, lookAt, looked, askedLeast, IsRead, OnlyReads, NoNumber, Requester, ReadOn}
+use Rattle.theorems.specs.Reads.{Calls, sinceRestart, boxAfter, atRestart, atAlgorithms, atReads, Seen, seen, readsSeen, View, nothing, portionIn, lookAt, looked, askedLeast, IsRead, OnlyReads, NoNumber, Requester, ReadOn, ReadsMost}
 use Rattle.theorems.proofs.Holdings.{chain-short, digestsMost}
 use Rattle.theorems.proofs.Portions.{Portion, portion, ReadsBack, reads-back, Room, capacity, room-now, room-next}
 use Rattle.theorems.proofs.Serving.{Serves, ServesWith, negotiated, digested}
@@ -260,4 +260,24 @@ reads-whole h image c k s p =
       enough = none-left (v .left) (length (v .held)) (length chain) n (g .more) (g .paid);
       first = g .first;
       joined = λ e. g .first ∙ take-all (length (v .held)) chain (omega (arith, g .done e));
+    }
+
+-- n portions of at most 34 bytes are at most 34·n bytes
+held-most : (v : View) (xs : List Seen) → Each (λ (x : Seen). length (portionIn (x .answer)) ≤ askedLeast) xs
+    → length (looked v xs .held) ≤ length (v .held) + askedLeast * length xs
+unfolding looked
+held-most v [] e = omega arith
+held-most v (x ∷ xs) e =
+    omega (arith, e .0, held-most (lookAt v (x .answer)) xs (e .1), length-append (v .held) (portionIn (x .answer)))
+
+-- "Demand 3's reading promise must still hold at the longest chain: 482 requests at 34 bytes". What it assumes is what *reads-whole* does.
+pub reads-longest : (h : Held) (image : List ℕ) (c : Contents) (k : ℕ) (s : Calls) → Requester h image c k s
+    → ReadsMost (slotChain c k) (readsSeen h s)
+reads-longest h image c k s p =
+    let whole = reads-whole h image c k s p in
+    let short : length (slotChain c k) ≤ chainLimit = chain-short c (image-read image c (p .octets) (p .holds) .1) k in
+    record {
+      most = omega (arith, whole .most);
+      enough = λ e. whole .enough (omega arith);
+      needed = λ l e z. omega (arith, whole .most, held-most nothing (readsSeen h s) e, ap length (whole .joined z));
     }

@@ -53,10 +53,10 @@ are-bytes (x ∷ xs) t (suc i) = are-bytes xs (rest (ltb x 256) (small xs) t) i
 
 -- buffers of just the length that is needed, a fresh box
 abbrev pub lending : Contents → List ℕ → Call
-lending c r = ask (imageBytes c) (replicate 4608 0) 16384 r nonce
+lending c r = ask (imageBytes c) (replicate 4608 0) 36864 r nonce
 
 abbrev pub freshBox : Held
-freshBox = record { state = fresh; transcript = replicate 16384 0; awaited = [] }
+freshBox = record { state = fresh; transcript = replicate 36864 0; awaited = [] }
 
 abbrev pub reader : Calls
 reader = record {
@@ -75,6 +75,13 @@ reader11 = record {
   digests = lending bench (eleven getDigests) ∷ [];
   reads = lending bench (eleven (getPortion 0)) ∷ [];
 }
+
+-- what each has negotiated
+abbrev agreed12 : Negotiated
+agreed12 = record { edition = 0x12; phase = 3; peer = 42; selection = 1 }
+
+abbrev agreed11 : Negotiated
+agreed11 = record { edition = 0x11; phase = 3; peer = 4608; selection = 1 }
 
 -- GET_CERTIFICATE for all that is left, with a version byte
 abbrev allFrom : ℕ → ℕ → List ℕ
@@ -115,7 +122,7 @@ met = (
     filled = ltb→lt 0 100 tt;
     reads = (
       ltb→lt 0 1 tt,
-      (read-at _ 0x12 0 refl refl, (ltb→lt 0 66 tt, (read-at _ 0x12 34 refl refl, (ltb→lt 0 32 tt, (read-at _ 0x12 68 refl refl, tt))))),
+      (read-at agreed12 0x12 0 refl refl, (ltb→lt 0 66 tt, (read-at agreed12 0x12 34 refl refl, (ltb→lt 0 32 tt, (read-at agreed12 0x12 68 refl refl, tt))))),
     );
   },
   record {
@@ -129,6 +136,6 @@ met = (
     digests = (refl, tt);
     once = leb→le 1 1 tt;
     filled = ltb→lt 0 100 tt;
-    reads = (ltb→lt 0 1 tt, (read-at _ 0x11 0 refl refl, tt));
+    reads = (ltb→lt 0 1 tt, (read-at agreed11 0x11 0 refl refl, tt));
   },
 )

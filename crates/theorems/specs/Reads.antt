@@ -4,6 +4,7 @@ use mathlib.Core.List.{List, [], _∷_, _++_}
 use Prim.Native.Nat.{ℕ, _+_, _*_, _≤_, _<_}
 use lib.ListN.{length, take}
 use Rattle.wire.specs.Bytes.{Bytes, leAt, part}
+use Rattle.image.specs.Limits.{chainLimit}
 use Rattle.image.specs.Contents.{Contents, Each}
 use Rattle.image.specs.Reading.{reading, found}
 use Rattle.image.specs.Held.{slotChain}
@@ -80,6 +81,10 @@ looked v (x ∷ xs) = looked (lookAt v (x .answer)) xs
 abbrev pub askedLeast : ℕ
 askedLeast = 34
 
+-- paper 02, 5: "at the longest chain: 482 requests at 34 bytes"
+abbrev pub readsMost : ℕ
+readsMost = 482
+
 -- a read of a slot from an offset on, under what was negotiated; the high half of Param1, Param2 and the bytes behind the layout are free
 pub record IsRead (n : Negotiated) (k offset : ℕ) (r : List ℕ) : Type 0 where
   -- "a whole request of at most 4,608 bytes with the right version byte": the chosen edition's, as paper 02, 4 says
@@ -134,3 +139,12 @@ pub record ReadOn (chain : List ℕ) (xs : List Seen) : Type 0 where
   -- "the portions joined are exactly that slot's chain": its first bytes at any time, all of it when no byte remains
   pub first : looked nothing xs .held ≡ take (length (looked nothing xs .held)) chain
   pub joined : looked nothing xs .left ≡ 0 → looked nothing xs .held ≡ chain
+
+-- paper 02, 5: "at the longest chain: 482 requests at 34 bytes", of the same reads
+pub record ReadsMost (chain : List ℕ) (xs : List Seen) : Type 0 where
+  -- no chain takes more, and after so many no byte remains
+  pub most : length xs ≤ readsMost
+  pub enough : length xs ≡ readsMost → looked nothing xs .left ≡ 0
+  -- the longest takes so many, where no portion has more than 34 bytes
+  pub needed : length chain ≡ chainLimit → Each (λ (x : Seen). length (portionIn (x .answer)) ≤ askedLeast) xs
+      → looked nothing xs .left ≡ 0 → length xs ≡ readsMost

@@ -21,7 +21,7 @@ const FILE: usize = 2097152;
 
 const IMAGE: usize = 65536;
 
-const TRANSCRIPT: usize = 20480;
+const TRANSCRIPT: usize = 40960;
 
 const MESSAGE: usize = 5120;
 

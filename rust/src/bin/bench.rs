@@ -100,6 +100,8 @@ struct Provisioning {
 }
 
 const FULL: Provisioning = Provisioning { chains: 8, chain: 4_096, measurements: 32 };
+/// As many of the longest chains as an image holds.
+const LONG: Provisioning = Provisioning { chains: 3, chain: 16_384, measurements: 32 };
 const HASH: usize = 32;
 const SIGNATURE: usize = 64;
 
@@ -208,13 +210,15 @@ fn measuring() -> State {
     [3, 4_608, 1, 54 + 32 + 36, 0, 0, 0, 0, 0x12]
 }
 
-/// Reads of slot 3 from its start to its end, `portion` bytes at a time.
-fn reads(portion: usize) -> Vec<Step> {
-    (0..FULL.chain)
+/// Reads of a slot from its chain's start to its end, `portion` bytes at a time.
+fn reads(on: Provisioning, slot: u8, portion: usize) -> Vec<Step> {
+    // B holds each request's 8 bytes and each answer's 8 and portion: no read is refused.
+    assert!(16 * on.chain.div_ceil(portion) + on.chain <= plain::B_ROOM, "reads that B has no room for");
+    (0..on.chain)
         .step_by(portion)
         .map(|offset| {
             let [low, high] = (offset as u16).to_le_bytes();
-            Step::Respond(vec![0x12, 0x82, 3, 0, low, high, 0xFF, 0xFF])
+            Step::Respond(vec![0x12, 0x82, slot, 0, low, high, 0xFF, 0xFF])
         })
         .collect()
 }
@@ -263,18 +267,20 @@ fn works(digests: usize) -> Vec<Work> {
     let fifth = digests / 5;
     let mut mixed = handshake(4_608);
     mixed.push(Step::Respond(vec![0x12, 0x81, 0, 0]));
-    mixed.extend(reads(1_024));
+    mixed.extend(reads(FULL, 3, 1_024));
     mixed.extend(signed());
     mixed.extend(refusals());
     mixed.extend(handshake(42));
-    mixed.extend(reads(34));
+    mixed.extend(reads(FULL, 3, 34));
     mixed.extend(refusals());
     let mut all = vec![
         work("GET_DIGESTS", FULL, get_digests(), digests),
         work("handshake", FULL, handshake(4_608), fifth),
         work("handshake of 1.1", FULL, handshake_of(0x11, &[]), fifth),
-        work("chain by 34", FULL, from(negotiated(42), reads(34)), fifth),
-        work("chain by 1024", FULL, from(negotiated(4_608), reads(1_024)), fifth),
+        work("chain by 34", FULL, from(negotiated(42), reads(FULL, 3, 34)), fifth),
+        work("chain by 1024", FULL, from(negotiated(4_608), reads(FULL, 3, 1_024)), fifth),
+        work("long by 34", LONG, from(negotiated(42), reads(LONG, 2, 34)), fifth),
+        work("long by 1024", LONG, from(negotiated(4_608), reads(LONG, 2, 1_024)), fifth),
         work("refusals", FULL, from(measuring(), refusals()), fifth),
         work("signed, finished", FULL, from(measuring(), signed()), fifth),
         work("all mixed", FULL, mixed, fifth),
@@ -290,6 +296,8 @@ fn works(digests: usize) -> Vec<Work> {
         (8, 64, 0),
         (8, 1_024, 0),
         (8, 4_096, 0),
+        (1, 16_384, 0),
+        (3, 16_384, 0),
     ] {
         let name = format!("{chains} of {chain}, {measurements}");
         all.push(work(&name, Provisioning { chains, chain, measurements }, get_digests(), fifth));
@@ -416,13 +424,14 @@ fn main() {
     }
     let repeats = from_env("SPDM_REPEATS", 11).max(1);
     let calls = from_env("SPDM_COUNTED", 2_000);
+    let told = |on: Provisioning| {
+        let Provisioning { chains, chain, measurements } = on;
+        format!("{} bytes: {chains} chains of {chain} bytes, {measurements} measurements", on.image().len())
+    };
     println!(
-        "An image of {} bytes: {} chains of {} bytes, {} measurements. {repeats} repeats in slices, interleaved; buffers are not \
-         cleared between calls.",
-        FULL.image().len(),
-        FULL.chains,
-        FULL.chain,
-        FULL.measurements
+        "An image of {}; for \"long\" one of {}. {repeats} repeats in slices, interleaved; buffers are not cleared between calls.",
+        told(FULL),
+        told(LONG)
     );
     println!("Below \"all mixed\": GET_DIGESTS of other images, by chains of how many bytes, and measurements.");
     println!("Nanoseconds of processor time a call, and instructions a call:");

@@ -10,7 +10,7 @@ read-chain-spec =
     tie.close
     (tie.spec
     (λ image transcript₀ answer₀ peer after₀ k₀ t9 transcript answer after k. Unit {0})
-    (λ image transcript₀ answer₀ peer after₀ k₀ t9 transcript answer after k. 4 - k)
+    (λ image transcript₀ answer₀ peer after₀ k₀ t9 transcript answer after k. 16 - k)
     (λ c. search needs) (λ c. search needs) (λ c. search needs) (λ c. search needs) (λ c. search needs)
     (λ c. search needs) (λ c κs. search needs) (λ c κs. search needs) (λ c. search needs) (λ c. search needs)
     (λ c. search needs) (λ c. search needs) (λ c. search needs))
