@@ -1,5 +1,7 @@
 // The provisioning image: the types that its reader and its lookups share, the sizes that its codes stand for, and the tests of a slot's
 // number and of a measurement's index. What an image is, and what reading it gives, is in specs/.
+#![tactic(auto)]
+
 pub mod limits;
 
 ghost use Rattle.std.specs.Prelude.{◌≡◌, ◌≤◌};
@@ -14,6 +16,7 @@ const DIGEST_SIZES: [u8; 6] = [32, 48, 64, 32, 48, 64];
 const SIGNATURE_SIZES: [u16; 9] = [256, 256, 384, 384, 64, 512, 512, 96, 132];
 
 // The bytes of a digest of the hash with that bit number, 0 where there is none.
+#[tactic(auto, using(crate::proofs::Sizes::digest_past), unfolding(crate::specs::Sizes::digest_size))]
 pub fn digest_size(hash: u8) -> usize
     ensures { (result ≡ digest_size hash) × (result ≤ digest_most) }
 {
@@ -22,6 +25,7 @@ pub fn digest_size(hash: u8) -> usize
 }
 
 // The bytes of a signature of the algorithm with that bit number, 0 where there is none.
+#[tactic(auto, using(crate::proofs::Sizes::signature_past), unfolding(crate::specs::Sizes::signature_size))]
 pub fn signature_size(signature: u8) -> usize
     ensures { (result ≡ signature_size signature) × (result ≤ signature_most) }
 {
@@ -34,10 +38,10 @@ pub fn signature_size(signature: u8) -> usize
 }
 
 // The number of a slot, 0 to 7: made only after its test.
-#[derive(Drop)]
+#[derive(Clone, Copy)]
 pub struct SlotNumber(u8);
 
-#[derive(Drop)]
+#[derive(Clone, Copy)]
 pub enum SlotCheck {
     Slot(SlotNumber),
     OutOfRange,
@@ -59,10 +63,10 @@ pub fn slot_byte(n: SlotNumber) -> u8
 }
 
 // The index of a measurement, 1 to 239: made only after its test.
-#[derive(Drop)]
+#[derive(Clone, Copy)]
 pub struct MeasurementIndex(u8);
 
-#[derive(Drop)]
+#[derive(Clone, Copy)]
 pub enum IndexCheck {
     Index(MeasurementIndex),
     OutOfRange,
@@ -87,7 +91,7 @@ pub fn index_byte(i: MeasurementIndex) -> u8
 }
 
 // What the identity record holds: CTExponent, and the bit numbers of BaseHashAlgo and BaseAsymAlgo.
-#[derive(Drop)]
+#[derive(Clone, Copy)]
 pub struct Identity {
     pub exponent: u8,
     pub hash: u8,
@@ -96,7 +100,7 @@ pub struct Identity {
 
 // What is kept of an accepted image: its identity, how many chains and measurements it has, where the record of each
 // slot's chain has its body (0: not filled), and where the first measurement has its body.
-#[derive(Drop)]
+#[derive(Clone, Copy)]
 pub struct Index {
     pub identity: Identity,
     pub chains: u8,
@@ -105,21 +109,21 @@ pub struct Index {
     pub first: u16,
 }
 
-#[derive(Drop)]
+#[derive(Clone, Copy)]
 pub enum Verdict {
     Accepted,
     Refused(u8),
 }
 
 // A refused image has an index of zeros.
-#[derive(Drop)]
+#[derive(Clone, Copy)]
 pub struct Image {
     pub verdict: Verdict,
     pub index: Index,
 }
 
 // What the tests of a record need of the records before it.
-#[derive(Drop)]
+#[derive(Clone, Copy)]
 pub struct Seen {
     pub size: u8,
     pub chains: u8,

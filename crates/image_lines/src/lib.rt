@@ -1,5 +1,7 @@
 // The bench's text of an image, lines of hex, taken in parts of any length: it is decoded, tested and put together record by record, in
 // the room of one line and one image.
+#![tactic(auto)]
+
 ghost use Rattle.std.specs.Prelude.{◌≡◌, length};
 ghost use Rattle.image_lines.specs.Lines.{digit_of, first_in, record_in};
 ghost use Rattle.image_lines.specs.Taking.{line_room, no_line, line_after, room_after, line_bytes, begun, draft_after};
@@ -25,7 +27,7 @@ const LINE_ROOM: usize = 1 + (1 + DIGEST_MOST + CHAIN_LIMIT) + 1;
 
 // What has come of a line: whether a character is no hex digit, the first digit of a byte whose second is to come (16: none), and how many
 // bytes are kept.
-#[derive(Drop)]
+#[derive(Clone, Copy)]
 pub struct Line {
     pub bad: bool,
     pub high: u8,
@@ -33,7 +35,7 @@ pub struct Line {
 }
 
 // What has come of a text: whether its first line has ended, what the lines that have ended come to, and the line that has not.
-#[derive(Drop)]
+#[derive(Clone, Copy)]
 pub struct Text {
     pub opened: bool,
     pub draft: Draft,

@@ -1,5 +1,7 @@
 // Lookups in an image by its index: a slot's digest and chain, which slots are filled, measurements and their summaries.
 // Nothing is asked of a caller: of any image and any index the answer is the definition's, and what is not there is empty or 0.
+#![tactic(auto)]
+
 ghost use Rattle.std.specs.Prelude.{◌≡◌, ◌+◌, ◌<◌, ◌≤◌, eqb};
 ghost use Rattle.wire.specs.Pick.{pick};
 ghost use Rattle.image.specs.Limits.{slot_length};

@@ -1,10 +1,9 @@
 -- The first record: by the frame behind the version byte the image reads as a refusal, or as its identity with the records that follow it.
 -- Assumes nothing.
-use mathlib.Core.Path.{◌≡◌, refl, sym, ap, ◌∙◌}
+use mathlib.Core.Path.{◌≡◌, sym, ap, ◌∙◌}
 use mathlib.Core.List.{List}
 use Prim.Native.Nat.{ℕ, ◌+◌}
 use native.Mathlib.Omega.{arith}
-use lib.ListN.{length, get_or}
 use borrow.Author.Tests.{ne_eqb}
 use Rattle.wire.specs.Bytes.{part}
 use Rattle.wire.proofs.Laws.{part_length}

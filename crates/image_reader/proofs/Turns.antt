@@ -269,7 +269,7 @@ pub record Ran (b : List ℕ) (c₀ : Contents) (from : ℕ) (p : Places) (at : 
   pub onward : from ≤ at
   pub measuring : 0 < v.measurements
 
-pub reached-run : {b : List ℕ} {c₀ : Contents} {from at : ℕ} {w v : Seen} {p : Places} → Reached b c₀ from w p → 0 < w.measurements → Run b from w at v → Ran b c₀ from p at v
+pub reached-run : {b : List ℕ} {c₀ : Contents} {from : ℕ} {w : Seen} {p : Places} {at : ℕ} {v : Seen} → Reached b c₀ from w p → 0 < w.measurements → Run b from w at v → Ran b c₀ from p at v
 reached-run r m none = record { reached = r; onward = omega arith; measuring = m }
 reached-run {b} {c₀} {p = p} r m (more {at} {v} run start len next e) =
     let i = reached-run r m run in

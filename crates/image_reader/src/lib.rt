@@ -1,4 +1,6 @@
 // The reader of the provisioning image: one walk over its records, each held against those before it.
+#![tactic(auto)]
+
 ghost use Rattle.std.specs.Prelude.{◌≡◌, ◌+◌, ◌<◌, ◌≤◌, length};
 ghost use Rattle.image.specs.Limits.{image_limit, head_length, slot_limit, chain_kind, identity_end};
 ghost use Rattle.image.specs.Contents.{identity_body};

@@ -1,4 +1,6 @@
 // The tests of the provisioning image's records, each held against those before it. The reader and the writer make the same ones.
+#![tactic(auto)]
+
 ghost use Rattle.std.specs.Prelude.{◌≡◌, get_or};
 ghost use Rattle.image.specs.Reading.{identity_in, field_fault, identity_fault, chain_fault, measurement_fault, summary_fault};
 ghost use Rattle.image.specs.Reading.{record_fault, end_fault};

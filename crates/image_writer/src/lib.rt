@@ -1,5 +1,7 @@
 // The writer of the provisioning image: from a first byte and records, each a kind and a body, the image, or the number of the first fault.
 // The records are tested by the reader's own tests.
+#![tactic(auto)]
+
 mod drafting;
 
 ghost use Rattle.std.specs.Prelude.{◌≡◌, ◌+◌, ◌≤◌, length, get_or};
@@ -14,7 +16,7 @@ use image::limits::HEAD_LENGTH;
 
 // What the first byte and the records so far come to: the number of the first fault (0: none), whether the identity has come, what the
 // tests of the next record need, and the length of the image so far.
-#[derive(Drop)]
+#[derive(Clone, Copy)]
 pub struct Draft {
     pub fault: u8,
     pub identified: bool,
@@ -23,7 +25,7 @@ pub struct Draft {
 }
 
 // An image of so many bytes, or the number of the first fault.
-#[derive(Drop)]
+#[derive(Clone, Copy)]
 pub enum Written {
     Image(usize),
     Refused(u8),
