@@ -1,4 +1,6 @@
 // What a request comes to, before any byte is written: the numbers 11 to 14, then the steps 1 to 9 in the order of the paper.
+#![tactic(auto)]
+
 mod algorithms;
 mod capabilities;
 mod certificate;

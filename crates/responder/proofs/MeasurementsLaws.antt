@@ -17,8 +17,7 @@ use Rattle.image.specs.Contents.{Contents, Valid, Measurement, ValidMeasurement,
 use Rattle.image.specs.Held.{measurement_of}
 use Rattle.image.specs.declared.MeasurementIndex.{MeasurementIndex}
 use Rattle.rules.specs.Facts.{facts_of}
-use Rattle.rules.specs.Measurements.{operation_fits, block_count, block_bytes, blocks_of}
-use Rattle.rules.specs.declared.Operation.{Operation}
+use Rattle.rules.specs.Measurements.{operation_fits, block_bytes, blocks_of}
 use Rattle.rules.specs.declared.Operation.TheVariants as operation
 use Rattle.rules.proofs.AnswerLengths.{block-length, present-length}
 

@@ -1,5 +1,5 @@
 -- What carrying out an accepted request comes to, for the pieces that do it. The promises of the public functions do not rest on this file.
-use Rattle.std.specs.Prelude.{◌≡◌, List, ◌++◌, ℕ, ◌+◌, ◌≤◌, length, take, replicate, eqb}
+use Rattle.std.specs.Prelude.{◌≡◌, List, ◌++◌, ℕ, ◌+◌, ◌≤◌, take, replicate, eqb}
 use Rattle.wire.specs.Bytes.{splice}
 use Rattle.wire.specs.Pick.{pick}
 use Rattle.image.specs.Sizes.{signature_most}

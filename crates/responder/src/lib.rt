@@ -1,4 +1,6 @@
 // The responder: one request in, one answer out. It tests everything itself.
+#![tactic(auto)]
+
 mod accept;
 mod algorithms;
 mod capabilities;

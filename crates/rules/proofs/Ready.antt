@@ -1,21 +1,20 @@
 -- What an effect tells of the buffers and the state of the call that came to it, as the tests before it passed (Told), with the answers' lengths
 -- (AnswerLengths). Assumes nothing.
 use mathlib.Core.Path.{◌≡◌, refl, ap, sym, subst, ◌∙◌}
-use mathlib.Core.List.{List, [], ◌++◌}
+use mathlib.Core.List.{List, ◌++◌}
 use Prim.Native.Nat.{ℕ, ◌+◌, ◌≤◌}
 use native.Mathlib.Omega.{arith}
-use lib.ListN.{length, take, length-append, replicate, length-replicate}
+use lib.ListN.{length, take, length-append, length-replicate}
 use lib.Seq.{length-take-le}
 use Rattle.wire.specs.Bytes.{Bytes}
-use Rattle.wire.specs.Pick.{pick}
 use Rattle.image.specs.Contents.{Contents, Valid}
 use Rattle.image.specs.Reading.{Result, number, found, reading}
 use Rattle.image.proofs.Exactly.{image-read}
-use Rattle.rules.specs.Limits.{message_limit, transcript_length, awaits_nothing}
+use Rattle.rules.specs.Limits.{message_limit, transcript_length}
 use Rattle.rules.specs.Facts.{facts_of}
 use Rattle.rules.specs.Parts.{limit_of, Kept, count_kept, Entry, into, nowhere}
 use Rattle.rules.specs.Steps.{whole_length}
-use Rattle.rules.specs.Messages.{exchange_for, message_bytes}
+use Rattle.rules.specs.Messages.{message_bytes}
 use Rattle.rules.specs.Decisions.{decision_of}
 use Rattle.rules.specs.Effects.{Change, added, Effect, host, refuse, accept, with_zeros, effect_of, effect_by}
 use Rattle.rules.specs.declared.Used.{Used}

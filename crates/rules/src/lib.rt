@@ -1,10 +1,12 @@
 // SPDM's vocabulary as types: the connection state, the kinds of request, and what a call comes to. The rules are in specs/.
+#![tactic(auto)]
+
 pub mod limits;
 
 use image::{MeasurementIndex, SlotNumber};
 
 // How far the negotiation has come, and what it agreed on.
-#[derive(Drop)]
+#[derive(Clone, Copy)]
 pub struct Negotiated {
     // the version byte of the chosen edition, 0 before the choice
     pub edition: u32,
@@ -16,7 +18,7 @@ pub struct Negotiated {
 }
 
 // Bytes used of the three parts of the transcript.
-#[derive(Drop)]
+#[derive(Clone, Copy)]
 pub struct Used {
     pub a: u32,
     pub b: u32,
@@ -24,14 +26,14 @@ pub struct Used {
 }
 
 // Whose signature is awaited (limits has the numbers), and the length of that answer.
-#[derive(Drop)]
+#[derive(Clone, Copy)]
 pub struct Awaited {
     pub whose: u32,
     pub length: u32,
 }
 
 // The connection state as the host holds it between two calls; all zero is fresh.
-#[derive(Drop)]
+#[derive(Clone, Copy)]
 pub struct State {
     pub negotiated: Negotiated,
     pub used: Used,
@@ -39,14 +41,14 @@ pub struct State {
 }
 
 // The lengths of the buffers that a call is lent.
-#[derive(Drop)]
+#[derive(Clone, Copy)]
 pub struct Lengths {
     pub transcript: usize,
     pub answer: usize,
 }
 
 // The kinds of request that are served.
-#[derive(Drop)]
+#[derive(Clone, Copy)]
 pub enum Kind {
     Version,
     Capabilities,
@@ -58,14 +60,14 @@ pub enum Kind {
 }
 
 // What a request code asks for.
-#[derive(Drop)]
+#[derive(Clone, Copy)]
 pub enum Asked {
     Served(Kind),
     Unserved,
 }
 
 // Which measurements a GET_MEASUREMENTS asks for: only their count, all, or one.
-#[derive(Drop)]
+#[derive(Clone, Copy)]
 pub enum Operation {
     Count,
     All,
@@ -73,14 +75,14 @@ pub enum Operation {
 }
 
 // Whether a GET_MEASUREMENTS asks a signature, and by which slot.
-#[derive(Drop)]
+#[derive(Clone, Copy)]
 pub enum Signer {
     Nobody,
     Slot(SlotNumber),
 }
 
 // An answer, with the numbers that its bytes need beside the image, the nonce and what is negotiated.
-#[derive(Drop)]
+#[derive(Clone, Copy)]
 pub enum Message {
     Version,
     Capabilities,
@@ -103,7 +105,7 @@ pub enum Message {
 }
 
 // The parts of the transcript.
-#[derive(Drop)]
+#[derive(Clone, Copy)]
 pub enum Part {
     A,
     B,
@@ -112,7 +114,7 @@ pub enum Part {
 
 // What an accepted request does beside its answer, alike for every message: the part that it is appended to, how much of the request
 // and of the answer is appended, the length of the signature that the answer ends in, and whose signature is awaited.
-#[derive(Drop)]
+#[derive(Clone, Copy)]
 pub struct Exchange {
     pub part: Part,
     pub layout: usize,
@@ -123,7 +125,7 @@ pub struct Exchange {
 
 // What a request comes to before any byte is written: a number for the host, an ERROR of the step that refuses, or an accepted request
 // with all that follows from it. The size is the answer's, which step 8 tells.
-#[derive(Drop)]
+#[derive(Clone, Copy)]
 pub enum Decision {
     Number(u32),
     Refused {
@@ -140,7 +142,7 @@ pub enum Decision {
 }
 
 // What a finishing comes to.
-#[derive(Drop)]
+#[derive(Clone, Copy)]
 pub enum Finish {
     Number(u32),
     Signed,
@@ -148,13 +150,13 @@ pub enum Finish {
 }
 
 // A number for the host, or the length of the answer in the lent buffer.
-#[derive(Drop)]
+#[derive(Clone, Copy)]
 pub enum Reply {
     Number(u32),
     Answer(usize),
 }
 
-#[derive(Drop)]
+#[derive(Clone, Copy)]
 pub struct Outcome {
     pub reply: Reply,
     pub state: State,

@@ -1,5 +1,7 @@
 // The responder as C calls it: slices are a pointer and a length, the state is nine words, and a result is number · 65,536 +
 // answer length. Nothing is asked of a caller but lent memory: every length is tested.
+#![tactic(auto)]
+
 ghost use Rattle.std.specs.Prelude.{◌≡◌, [], ◌∷◌, ◌≤◌, length};
 ghost use Rattle.wire.specs.Bytes.{splice};
 ghost use Rattle.image.specs.Reading.{reading};
@@ -185,6 +187,7 @@ fn prefix_shown(s: State) -> usize
 }
 
 // A number, or the prefix's length.
+#[tactic(auto, using(wire::proofs::Picks::picks), unfolding(crate::specs::ToSign::show_reply))]
 fn decide_show(s: State, prefix: usize, parts: usize) -> Reply
     ensures { result ≡ show_reply s prefix parts }
 {
@@ -276,6 +279,7 @@ pub extern "C" fn spdm_read_image(image: &[u8]) -> u32
 }
 
 // The image's number, or 11 where there is no room for the words.
+#[tactic(auto, using(wire::proofs::Picks::picks), unfolding(crate::specs::ImageAlgorithms::room_reply))]
 fn decide_algorithms(verdict: Verdict, room: usize) -> Reply
     ensures { result ≡ verdict_reply verdict room }
 {

@@ -1,5 +1,7 @@
 // The connection state that the host holds: the fresh one, the bounds of any that it hands in (number 14), what a refusal leaves, and the
 // version byte that goes by it.
+#![tactic(auto)]
+
 ghost use Rattle.std.specs.Prelude.{◌≡◌};
 ghost use Rattle.rules.specs.State.{fresh as freshState, holds_only, capabilities_used, phase_fits, selection_fits, awaited_fits};
 ghost use Rattle.rules.specs.State.{edition_fits, own_bounds, selection_held, awaited_long, in_bounds};

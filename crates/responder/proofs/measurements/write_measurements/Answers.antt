@@ -1,0 +1,54 @@
+-- The parts are written one behind the other, so they are one run of stores; the record is as long as its blocks. Assumes nothing.
+use Rattle.std.proofs.Common.{◌≡◌, refl, sym, ◌∙◌, true, [], ◌∷◌, ℕ, List, ◌+◌, ◌*◌, ◌≤◌, arith, length}
+use Rattle.wire.specs.Bytes.{Bytes, le_bytes}
+use Rattle.image.specs.Sizes.{digest_most}
+use Rattle.image.specs.declared.Index.{Index}
+use Rattle.image.specs.Read.{Known, Fine}
+use Rattle.image.proofs.Given.{valid, known-fine}
+use Rattle.image.proofs.Found.{size_is, count_is}
+use Rattle.rules.specs.Limits.{measurements_code}
+use Rattle.rules.specs.Facts.{facts_of}
+use Rattle.rules.specs.Header.{version_of}
+use Rattle.rules.specs.Measurements.{operation_fits, block_count, record_of, count_shown, slot_shown, measurements_bytes}
+use Rattle.rules.specs.declared.Operation.{Operation}
+use Rattle.rules.proofs.AnswerLengths.{few_blocks, record_length}
+use Rattle.rules.proofs.SameFacts.{facts}
+use Rattle.responder.proofs.MeasurementsLaws.{blocks_few}
+use Rattle.responder.proofs.RunLaws.{measurements-run}
+use Rattle.responder.proofs.measurements.write_measurements.Goals as goal
+
+-- the record is short
+few : (b : List ℕ) (ix : Index) (o : Operation) → Bytes b → Known b ix → (k n h : ℕ) → k ≡ n → n ≡ block_count ix.measurements o → h ≤ digest_most → k * (7 + h) ≤ 2272
+few b ix o y known k n h e d q =
+    let f : Fine ix = known-fine y known in
+    blocks_few k h (rw (e, d) (few_blocks ix.measurements o f.measurements)) q
+
+pub overflow_mul-long : goal.overflow_mul-long
+overflow_mul-long c =
+    omega (arith, few _ _ _ (λ i. (c.type_inv.image i).fits) c.requires.0 _ _ _ c.wide.ensures.0 c.block_count-blocks.ensures c.digest_size.ensures.1)
+
+pub returns : goal.returns
+unfolding measurements_bytes
+returns c = λ k r.
+    let a = c.args in
+    let y : Bytes a.image.now = λ i. (c.type_inv.image i).fits in
+    let f : operation_fits (facts_of k) a.o ≡ true = rw (facts y r) at c.requires.1.1 in
+    let e : c.wide.result * (7 + c.digest_size.result) ≡ length (record_of k a.o) =
+    rw (c.wide.ensures.0, c.block_count-blocks.ensures, count_is r, c.digest_size.ensures.0, size_is r)
+    (sym (record_length k (valid y r) a.o f)) in
+    c.put_le-2.ensures
+    ∙ rw (
+      c.copy_into-2.ensures,
+      c.write_record.ensures k r,
+      c.put_le.ensures,
+      c.copy_into.ensures,
+      c.version_of.ensures,
+      c.count_shown.ensures k r.indexed,
+      c.slot_shown.ensures,
+      c.block_count-blocks.ensures,
+      count_is r,
+      e,
+    )
+    (measurements-run a.answer.now
+    (version_of a.n ∷ measurements_code ∷ count_shown k a.o ∷ slot_shown a.g ∷ block_count (length k.measurements) a.o ∷ [])
+    (le_bytes 3 (length (record_of k a.o))) (record_of k a.o) a.nonce.now (0 ∷ 0 ∷ []) refl refl c.requires.1.0)

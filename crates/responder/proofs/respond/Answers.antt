@@ -1,0 +1,22 @@
+-- A refused image says its number. The index of an accepted one is that of its contents, and the request is answered by their rules.
+-- Assumes nothing.
+use Rattle.std.proofs.Common.{refl}
+use Rattle.rules.specs.Effects.{effect_by}
+use Rattle.responder.proofs.Carries.{no_answer}
+use Rattle.image.proofs.Verdicts.{known, number_read}
+use Rattle.responder.proofs.respond.Goals as goal
+
+pub answer_request-requires : goal.answer_request-requires
+answer_request-requires c = known _ c.read_image-read.ensures c.in-Accepted.is
+
+pub returns-in-Refused : goal.returns-in-Refused
+unfolding effect_by
+returns-in-Refused c =
+    rw (number_read c.args.image.now c.read_image-read.ensures _ c.in-Refused.is)
+    (record { reply = refl; state = refl; answer = no_answer _; transcript = refl })
+
+pub returns-in-Accepted : goal.returns-in-Accepted
+unfolding effect_by
+returns-in-Accepted c =
+    let k = known c.args.image.now c.read_image-read.ensures c.in-Accepted.is in
+    rw k.same.read (c.answer_request.ensures k.held k.same)
