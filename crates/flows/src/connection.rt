@@ -23,7 +23,7 @@ pub const VERSION_11: u8 = 0x11;
 pub const VERSION_12: u8 = 0x12;
 
 // What a peer's requests have in them: the version that it speaks, the slot, and CHALLENGE's Param2.
-#[derive(Drop)]
+#[derive(Clone, Copy)]
 pub struct Peer {
     pub version: u8,
     pub slot: u8,
@@ -56,21 +56,21 @@ fn awaited(s: State) -> u32 {
 }
 
 // What was answered, or the number that the host sees.
-fn print_reply(reply: Reply, answer: &[u8]) {
-    print(b" -> ");
+fn print_reply(rt: &impl Print, reply: Reply, answer: &[u8]) {
+    print(rt, b" -> ");
     match reply {
         Reply::Number(number) => {
-            print(b"number ");
-            print_number(number as u64);
+            print(rt, b"number ");
+            print_number(rt, number as u64);
         }
-        Reply::Answer(n) => print_bytes(wire::part_of(answer, 0, n)),
+        Reply::Answer(n) => print_bytes(rt, wire::part_of(answer, 0, n)),
     }
-    print(b"\n");
+    print(rt, b"\n");
 }
 
 // Finishes a signed answer; the chip's signature is a fixed pattern.
-fn finish(image: &[u8], s: State, transcript: &[u8], answer: &mut [u8]) -> State {
-    print_signed(s, transcript);
+fn finish(rt: &impl Print, image: &[u8], s: State, transcript: &[u8], answer: &mut [u8]) -> State {
+    print_signed(rt, s, transcript);
     let o = signing::finish(
         image,
         s,
@@ -80,7 +80,7 @@ fn finish(image: &[u8], s: State, transcript: &[u8], answer: &mut [u8]) -> State
         b"the chip's signature of 64 bytes, which is a pattern for a test.",
     );
     let reply = o.reply;
-    print_reply(reply, answer);
+    print_reply(rt, reply, answer);
     o.state
 }
 
@@ -104,6 +104,7 @@ pub fn exchange(
 
 // Sends a request, finishes the answer if it is a signed one, and prints both.
 pub fn ask(
+    rt: &impl Print,
     image: &[u8],
     s: State,
     transcript: &mut [u8; TRANSCRIPT],
@@ -111,21 +112,22 @@ pub fn ask(
     name: &[u8],
     request: &[u8],
 ) -> State {
-    print(b"  ");
-    print(name);
-    print(b" ");
-    print_bytes(request);
+    print(rt, b"  ");
+    print(rt, name);
+    print(rt, b" ");
+    print_bytes(rt, request);
     let o = exchange(image, s, transcript, answer, request);
     if awaited(o.state) != 0 {
-        return finish(image, o.state, transcript, answer);
+        return finish(rt, image, o.state, transcript, answer);
     }
     let reply = o.reply;
-    print_reply(reply, answer);
+    print_reply(rt, reply, answer);
     o.state
 }
 
 // Sends a GET_CAPABILITIES.
 fn capabilities(
+    rt: &impl Print,
     image: &[u8],
     s: State,
     transcript: &mut [u8; TRANSCRIPT],
@@ -140,6 +142,7 @@ fn capabilities(
         request.len()
     };
     ask(
+        rt,
         image,
         s,
         transcript,
@@ -151,6 +154,7 @@ fn capabilities(
 
 // Sends a NEGOTIATE_ALGORITHMS.
 fn algorithms(
+    rt: &impl Print,
     image: &[u8],
     s: State,
     transcript: &mut [u8; TRANSCRIPT],
@@ -160,6 +164,7 @@ fn algorithms(
     let mut request = OFFER;
     wire::copy_into(&mut request, 0, &[version]);
     ask(
+        rt,
         image,
         s,
         transcript,
@@ -171,6 +176,7 @@ fn algorithms(
 
 // Sends a CHALLENGE.
 pub fn challenge(
+    rt: &impl Print,
     image: &[u8],
     s: State,
     transcript: &mut [u8; TRANSCRIPT],
@@ -184,7 +190,7 @@ pub fn challenge(
         &[peer.version, CHALLENGE, peer.slot, peer.summary],
     );
     wire::copy_into(&mut request, 4, b"the requester's nonce, 32 bytes.");
-    ask(image, s, transcript, answer, b"CHALLENGE", &request)
+    ask(rt, image, s, transcript, answer, b"CHALLENGE", &request)
 }
 
 // Whether nothing is left to read behind an answer: it is no CERTIFICATE, or its remainder is 0.
@@ -197,6 +203,7 @@ pub fn read_whole(answer: &[u8]) -> bool {
 
 // Reads a slot's chain to its end, each time with the largest length.
 fn read_chain(
+    rt: &impl Print,
     image: &[u8],
     s: State,
     transcript: &mut [u8; TRANSCRIPT],
@@ -207,6 +214,7 @@ fn read_chain(
     for k in 0..PORTIONS {
         let offset = k * PORTION;
         after = ask(
+            rt,
             image,
             after,
             transcript,
@@ -232,6 +240,7 @@ fn read_chain(
 
 // Sends the request of a code.
 fn send(
+    rt: &impl Print,
     image: &[u8],
     s: State,
     transcript: &mut [u8; TRANSCRIPT],
@@ -241,6 +250,7 @@ fn send(
 ) -> State {
     match code {
         GET_VERSION => ask(
+            rt,
             image,
             s,
             transcript,
@@ -248,9 +258,10 @@ fn send(
             b"GET_VERSION",
             b"\x10\x84\x00\x00",
         ),
-        GET_CAPABILITIES => capabilities(image, s, transcript, answer, peer.version),
-        NEGOTIATE_ALGORITHMS => algorithms(image, s, transcript, answer, peer.version),
+        GET_CAPABILITIES => capabilities(rt, image, s, transcript, answer, peer.version),
+        NEGOTIATE_ALGORITHMS => algorithms(rt, image, s, transcript, answer, peer.version),
         GET_DIGESTS => ask(
+            rt,
             image,
             s,
             transcript,
@@ -258,13 +269,14 @@ fn send(
             b"GET_DIGESTS",
             &[peer.version, GET_DIGESTS, 0, 0],
         ),
-        GET_CERTIFICATE => read_chain(image, s, transcript, answer, peer),
-        _ => challenge(image, s, transcript, answer, peer),
+        GET_CERTIFICATE => read_chain(rt, image, s, transcript, answer, peer),
+        _ => challenge(rt, image, s, transcript, answer, peer),
     }
 }
 
 // Sends a run of requests, each by its code.
 pub fn run(
+    rt: &impl Print,
     image: &[u8],
     s: State,
     transcript: &mut [u8; TRANSCRIPT],
@@ -275,7 +287,7 @@ pub fn run(
     let mut after = s;
     let mut i = 0;
     while i < codes.len() {
-        after = send(image, after, transcript, answer, codes[i], peer);
+        after = send(rt, image, after, transcript, answer, codes[i], peer);
         i += 1;
     }
     after

@@ -1,6 +1,8 @@
 // Runs flows on the responder and prints each request with its answer: those of the paper that are not in its list, and those
 // of source document 004, with each version that VERSION has and the flow is for: 6.1 to 6.3 are for 1.0 and 1.1, 6.4 to 6.6
 // for any, the others for 1.2. Of paper 02's reading by 34 bytes it prints what the reads come to.
+#![tactic(auto)]
+
 mod connection;
 mod images;
 mod reading;
@@ -102,11 +104,12 @@ fn peer_of(version: u8) -> Peer {
 }
 
 // The paper: CHALLENGE before NEGOTIATE_ALGORITHMS gets UnexpectedRequest, and with another version byte VersionMismatch.
-fn paper_challenge(image: &[u8]) {
+fn paper_challenge(rt: &impl Print, image: &[u8]) {
     let mut transcript = [0u8; TRANSCRIPT];
     let mut answer = [0u8; ANSWER];
-    print(b"paper: CHALLENGE in phase 2\n");
+    print(rt, b"paper: CHALLENGE in phase 2\n");
     let s = run(
+        rt,
         image,
         state::fresh(),
         &mut transcript,
@@ -117,6 +120,7 @@ fn paper_challenge(image: &[u8]) {
     let mut request = [0u8; 36];
     wire::copy_into(&mut request, 0, &[VERSION_12, CHALLENGE]);
     let after = ask(
+        rt,
         image,
         s,
         &mut transcript,
@@ -126,6 +130,7 @@ fn paper_challenge(image: &[u8]) {
     );
     wire::copy_into(&mut request, 0, &[VERSION_11]);
     ask(
+        rt,
         image,
         after,
         &mut transcript,
@@ -136,13 +141,14 @@ fn paper_challenge(image: &[u8]) {
 }
 
 // Names an image by its length and CRC-32, and sends GET_VERSION on a fresh connection.
-fn version(image: &[u8]) {
+fn version(rt: &impl Print, image: &[u8]) {
     let mut transcript = [0u8; TRANSCRIPT];
     let mut answer = [0u8; ANSWER];
-    print(b"image of ");
-    print_sum(image);
-    print(b"\n");
+    print(rt, b"image of ");
+    print_sum(rt, image);
+    print(rt, b"\n");
     run(
+        rt,
         image,
         state::fresh(),
         &mut transcript,
@@ -153,19 +159,20 @@ fn version(image: &[u8]) {
 }
 
 // The paper: the smallest image has 80 bytes and is accepted; without its last byte the host sees number 3.
-fn paper_smallest() {
+fn paper_smallest(rt: &impl Print) {
     let mut space = [0u8; IMAGE];
     let n = images::smallest(&mut space);
-    version(wire::part_of(&space, 0, n));
-    version(wire::part_of(&space, 0, 79));
+    version(rt, wire::part_of(&space, 0, n));
+    version(rt, wire::part_of(&space, 0, 79));
 }
 
 // 6.4: CHALLENGE with a version above or below the negotiated one gets VersionMismatch.
-fn other_version(image: &[u8], peer: Peer) {
+fn other_version(rt: &impl Print, image: &[u8], peer: Peer) {
     let mut transcript = [0u8; TRANSCRIPT];
     let mut answer = [0u8; ANSWER];
-    print(b"6.4\n");
+    print(rt, b"6.4\n");
     let s = run(
+        rt,
         image,
         state::fresh(),
         &mut transcript,
@@ -175,17 +182,18 @@ fn other_version(image: &[u8], peer: Peer) {
     );
     let above = peer_of(std::num::wrapping_add_u8(peer.version, 1));
     let below = peer_of(std::num::wrapping_sub_u8(peer.version, 1));
-    let after = challenge(image, s, &mut transcript, &mut answer, above);
-    challenge(image, after, &mut transcript, &mut answer, below);
+    let after = challenge(rt, image, s, &mut transcript, &mut answer, above);
+    challenge(rt, image, after, &mut transcript, &mut answer, below);
 }
 
 // 6.5: before NEGOTIATE_ALGORITHMS, CHALLENGE, which its steps send, and GET_CERTIFICATE, which its description names, get
 // UnexpectedRequest.
-fn too_early(image: &[u8], peer: Peer) {
+fn too_early(rt: &impl Print, image: &[u8], peer: Peer) {
     let mut transcript = [0u8; TRANSCRIPT];
     let mut answer = [0u8; ANSWER];
-    print(b"6.5\n");
+    print(rt, b"6.5\n");
     run(
+        rt,
         image,
         state::fresh(),
         &mut transcript,
@@ -205,6 +213,7 @@ fn filled(mask: u8, slot: u8) -> bool {
 
 // A CHALLENGE for each slot that DIGESTS does not name, for 8 to 15 and for 255.
 fn invalid_slots(
+    rt: &impl Print,
     image: &[u8],
     s: State,
     transcript: &mut [u8; TRANSCRIPT],
@@ -215,10 +224,11 @@ fn invalid_slots(
     let mut after = s;
     for slot in 0..SLOT_IDS {
         if !filled(mask, slot) {
-            after = challenge(image, after, transcript, answer, Peer { slot, ..peer });
+            after = challenge(rt, image, after, transcript, answer, Peer { slot, ..peer });
         }
     }
     challenge(
+        rt,
         image,
         after,
         transcript,
@@ -228,11 +238,12 @@ fn invalid_slots(
 }
 
 // 6.6: CHALLENGE for a slot that is not filled, or with a Param2 that is none of 0, 1 and 0xFF, gets InvalidRequest.
-fn invalid_fields(image: &[u8], peer: Peer) {
+fn invalid_fields(rt: &impl Print, image: &[u8], peer: Peer) {
     let mut transcript = [0u8; TRANSCRIPT];
     let mut answer = [0u8; ANSWER];
-    print(b"6.6\n");
+    print(rt, b"6.6\n");
     let s = run(
+        rt,
         image,
         state::fresh(),
         &mut transcript,
@@ -241,26 +252,27 @@ fn invalid_fields(image: &[u8], peer: Peer) {
         peer,
     );
     let mask = answer[3];
-    let after = invalid_slots(image, s, &mut transcript, &mut answer, mask, peer);
+    let after = invalid_slots(rt, image, s, &mut transcript, &mut answer, mask, peer);
     let two = Peer { summary: 2, ..peer };
     let most = Peer {
         summary: 0xFE,
         ..peer
     };
-    let last = challenge(image, after, &mut transcript, &mut answer, two);
-    challenge(image, last, &mut transcript, &mut answer, most);
+    let last = challenge(rt, image, after, &mut transcript, &mut answer, two);
+    challenge(rt, image, last, &mut transcript, &mut answer, most);
 }
 
 // A flow on a slot: its setup, then its steps three times, with Param2 0, 1 and 0xFF. Each CHALLENGE_AUTH is finished before
 // the next request.
-fn flow(image: &[u8], name: &[u8], peer: Peer, setup: &[u8], steps: &[u8]) {
+fn flow(rt: &impl Print, image: &[u8], name: &[u8], peer: Peer, setup: &[u8], steps: &[u8]) {
     let mut transcript = [0u8; TRANSCRIPT];
     let mut answer = [0u8; ANSWER];
-    print(name);
-    print(b" slot ");
-    print_number(peer.slot as u64);
-    print(b"\n");
+    print(rt, name);
+    print(rt, b" slot ");
+    print_number(rt, peer.slot as u64);
+    print(rt, b"\n");
     let s = run(
+        rt,
         image,
         state::fresh(),
         &mut transcript,
@@ -273,45 +285,46 @@ fn flow(image: &[u8], name: &[u8], peer: Peer, setup: &[u8], steps: &[u8]) {
         summary: 0xFF,
         ..peer
     };
-    let first = run(image, s, &mut transcript, &mut answer, steps, peer);
-    let second = run(image, first, &mut transcript, &mut answer, steps, tcb);
-    run(image, second, &mut transcript, &mut answer, steps, all);
+    let first = run(rt, image, s, &mut transcript, &mut answer, steps, peer);
+    let second = run(rt, image, first, &mut transcript, &mut answer, steps, tcb);
+    run(rt, image, second, &mut transcript, &mut answer, steps, all);
 }
 
 // The flows of 004 with a valid CHALLENGE that are for 1.1.
-fn valid_flows_11(image: &[u8], peer: Peer) {
-    flow(image, b"6.1", peer, &SETUP, &STEPS_7);
-    flow(image, b"6.2", peer, &SETUP, &STEPS_8);
-    flow(image, b"6.3", peer, &SETUP, &STEPS_9);
+fn valid_flows_11(rt: &impl Print, image: &[u8], peer: Peer) {
+    flow(rt, image, b"6.1", peer, &SETUP, &STEPS_7);
+    flow(rt, image, b"6.2", peer, &SETUP, &STEPS_8);
+    flow(rt, image, b"6.3", peer, &SETUP, &STEPS_9);
 }
 
 // Those that are for 1.2.
-fn valid_flows_12(image: &[u8], peer: Peer) {
-    flow(image, b"6.7", peer, &SETUP, &STEPS_7);
-    flow(image, b"6.8", peer, &SETUP, &STEPS_8);
-    flow(image, b"6.9", peer, &SETUP, &STEPS_9);
-    flow(image, b"6.10", peer, &SETUP, &STEPS_10);
-    flow(image, b"6.11", peer, &STEPS_7, &STEPS_11);
-    flow(image, b"6.12", peer, &STEPS_7, &STEPS_12);
-    flow(image, b"6.13", peer, &STEPS_7, &STEPS_13);
-    flow(image, b"6.14", peer, &STEPS_7, &STEPS_14);
+fn valid_flows_12(rt: &impl Print, image: &[u8], peer: Peer) {
+    flow(rt, image, b"6.7", peer, &SETUP, &STEPS_7);
+    flow(rt, image, b"6.8", peer, &SETUP, &STEPS_8);
+    flow(rt, image, b"6.9", peer, &SETUP, &STEPS_9);
+    flow(rt, image, b"6.10", peer, &SETUP, &STEPS_10);
+    flow(rt, image, b"6.11", peer, &STEPS_7, &STEPS_11);
+    flow(rt, image, b"6.12", peer, &STEPS_7, &STEPS_12);
+    flow(rt, image, b"6.13", peer, &STEPS_7, &STEPS_13);
+    flow(rt, image, b"6.14", peer, &STEPS_7, &STEPS_14);
 }
 
 // Those that are for the version that the peer speaks.
-fn valid_flows(image: &[u8], peer: Peer) {
+fn valid_flows(rt: &impl Print, image: &[u8], peer: Peer) {
     if peer.version == VERSION_11 {
-        valid_flows_11(image, peer);
+        valid_flows_11(rt, image, peer);
     } else {
-        valid_flows_12(image, peer);
+        valid_flows_12(rt, image, peer);
     }
 }
 
 // The mask of the slots that DIGESTS names.
-fn valid_slots(image: &[u8], peer: Peer) -> u8 {
+fn valid_slots(rt: &impl Print, image: &[u8], peer: Peer) -> u8 {
     let mut transcript = [0u8; TRANSCRIPT];
     let mut answer = [0u8; ANSWER];
-    print(b"slots\n");
+    print(rt, b"slots\n");
     run(
+        rt,
         image,
         state::fresh(),
         &mut transcript,
@@ -323,35 +336,35 @@ fn valid_slots(image: &[u8], peer: Peer) -> u8 {
 }
 
 // The flows of 004 on an image that are for a version.
-fn version_flows(image: &[u8], version: u8) {
+fn version_flows(rt: &impl Print, image: &[u8], version: u8) {
     let peer = peer_of(version);
-    other_version(image, peer);
-    too_early(image, peer);
-    invalid_fields(image, peer);
-    let mask = valid_slots(image, peer);
+    other_version(rt, image, peer);
+    too_early(rt, image, peer);
+    invalid_fields(rt, image, peer);
+    let mask = valid_slots(rt, image, peer);
     for slot in 0..SLOTS {
         if filled(mask, slot) {
-            valid_flows(image, Peer { slot, ..peer });
+            valid_flows(rt, image, Peer { slot, ..peer });
         }
     }
 }
 
 // All flows of 004 on an image.
-fn source_flows(image: &[u8]) {
-    version(image);
-    print(b"SPDM 1.1\n");
-    version_flows(image, VERSION_11);
-    print(b"SPDM 1.2\n");
-    version_flows(image, VERSION_12);
+fn source_flows(rt: &impl Print, image: &[u8]) {
+    version(rt, image);
+    print(rt, b"SPDM 1.1\n");
+    version_flows(rt, image, VERSION_11);
+    print(rt, b"SPDM 1.2\n");
+    version_flows(rt, image, VERSION_12);
 }
 
-fn main() {
+fn main(rt: HostRuntime) {
     let mut space = [0u8; IMAGE];
     let n = images::bench(&mut space);
-    paper_challenge(wire::part_of(&space, 0, n));
-    paper_smallest();
-    paper_longest();
-    source_flows(wire::part_of(&space, 0, n));
+    paper_challenge(&rt, wire::part_of(&space, 0, n));
+    paper_smallest(&rt);
+    paper_longest(&rt);
+    source_flows(&rt, wire::part_of(&space, 0, n));
     let m = images::full(&mut space);
-    source_flows(wire::part_of(&space, 0, m));
+    source_flows(&rt, wire::part_of(&space, 0, m));
 }

@@ -98,28 +98,29 @@ fn read_portions(
 }
 
 // How many reads there were, the portions joined beside the chain as the image has it, and what B holds then.
-fn print_reading(r: Reading, chain: &[u8; CHAIN], image: &[u8]) {
+fn print_reading(rt: &impl Print, r: Reading, chain: &[u8; CHAIN], image: &[u8]) {
     let s = r.state;
     let used = s.used;
-    print(b"  ");
-    print_number(r.reads as u64);
-    print(b" GET_CERTIFICATE for ");
-    print_number(ASKED as u64);
-    print(b" bytes each -> ");
-    print_sum(wire::part_of(chain, 0, r.held));
-    print(b"; in the image ");
-    print_sum(wire::part_of(image, CHAIN_START, image.len()));
-    print(b"; B has ");
-    print_number(used.b as u64);
-    print(b" bytes\n");
+    print(rt, b"  ");
+    print_number(rt, r.reads as u64);
+    print(rt, b" GET_CERTIFICATE for ");
+    print_number(rt, ASKED as u64);
+    print(rt, b" bytes each -> ");
+    print_sum(rt, wire::part_of(chain, 0, r.held));
+    print(rt, b"; in the image ");
+    print_sum(rt, wire::part_of(image, CHAIN_START, image.len()));
+    print(rt, b"; B has ");
+    print_number(rt, used.b as u64);
+    print(rt, b" bytes\n");
 }
 
 // Restarts, negotiates and asks for the digests, then reads the chain.
-fn read_longest(image: &[u8]) {
+fn read_longest(rt: &impl Print, image: &[u8]) {
     let mut transcript = [0u8; TRANSCRIPT];
     let mut answer = [0u8; ANSWER];
     let mut chain = [0u8; CHAIN];
     let s = run(
+        rt,
         image,
         state::fresh(),
         &mut transcript,
@@ -128,13 +129,13 @@ fn read_longest(image: &[u8]) {
         peer_of(VERSION_12),
     );
     let r = read_portions(image, s, &mut transcript, &mut answer, &mut chain);
-    print_reading(r, &chain, image);
+    print_reading(rt, r, &chain, image);
 }
 
 // Paper 02, 5: "Demand 3's reading promise must still hold at the longest chain: 482 requests at 34 bytes."
-pub fn paper_longest() {
+pub fn paper_longest(rt: &impl Print) {
     let mut space = [0u8; IMAGE];
     let n = images::longest(&mut space);
-    print(b"paper: the longest chain by 34 bytes\n");
-    read_longest(wire::part_of(&space, 0, n));
+    print(rt, b"paper: the longest chain by 34 bytes\n");
+    read_longest(rt, wire::part_of(&space, 0, n));
 }

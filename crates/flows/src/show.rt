@@ -1,18 +1,16 @@
 // What is printed: bytes in hex, shortened where they are many, and how many bytes there are with their CRC-32.
-use libc::STDOUT_FILENO;
-
 // So many bytes are shown of those that have more.
 const SHOWN: usize = 36;
 
 // The polynomial of IEEE 802.3, lowest bit first.
 const POLYNOMIAL: u32 = 3988292384;
 
-pub fn print(text: &[u8]) {
-    io::write_all(STDOUT_FILENO, text);
+pub fn print(rt: &impl Print, text: &[u8]) {
+    let _ = rt.write_all(text);
 }
 
-pub fn print_number(n: u64) {
-    io::print_decimal(STDOUT_FILENO, n);
+pub fn print_number(rt: &impl Print, n: u64) {
+    let _ = rt.print(n);
 }
 
 // One bit further: the remainder's lowest bit goes out.
@@ -38,27 +36,27 @@ fn crc32(s: &[u8]) -> u32 {
 }
 
 // How many bytes there are, and their CRC-32.
-pub fn print_sum(bytes: &[u8]) {
-    print_number(bytes.len() as u64);
-    print(b" bytes, CRC-32 ");
-    io::print_hex(STDOUT_FILENO, crc32(bytes) as u64, 8);
+pub fn print_sum(rt: &impl Print, bytes: &[u8]) {
+    print_number(rt, bytes.len() as u64);
+    print(rt, b" bytes, CRC-32 ");
+    let _ = print!(rt; "{:08x}", crc32(bytes));
 }
 
-fn print_hex(bytes: &[u8]) {
+fn print_hex(rt: &impl Print, bytes: &[u8]) {
     for i in 0..bytes.len() {
-        io::print_hex(STDOUT_FILENO, wire::wide(bytes[i]) as u64, 2);
+        let _ = print!(rt; "{:02x}", bytes[i]);
     }
 }
 
 // Bytes in hex; of many, the first, and the sum of all.
-pub fn print_bytes(bytes: &[u8]) {
+pub fn print_bytes(rt: &impl Print, bytes: &[u8]) {
     if bytes.len() == 0 {
-        print(b"-");
+        print(rt, b"-");
     }
-    print_hex(wire::part_of(bytes, 0, SHOWN));
+    print_hex(rt, wire::part_of(bytes, 0, SHOWN));
     if SHOWN < bytes.len() {
-        print(b".. (");
-        print_sum(bytes);
-        print(b")");
+        print(rt, b".. (");
+        print_sum(rt, bytes);
+        print(rt, b")");
     }
 }

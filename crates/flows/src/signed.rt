@@ -18,27 +18,27 @@ fn same_length(a: &[u8; PREFIX], b: &[u8; PREFIX]) -> usize {
 }
 
 // The prefix: it ends where a buffer of zeros and one of ones differ, once it is written to both.
-fn print_prefix(s: State) {
+fn print_prefix(rt: &impl Print, s: State) {
     let mut zeros = [0u8; PREFIX];
     let mut ones = [1u8; PREFIX];
     signing::write_prefix(s, &mut zeros);
     signing::write_prefix(s, &mut ones);
     let n = same_length(&zeros, &ones);
     if n == 0 {
-        print(b"no prefix");
+        print(rt, b"no prefix");
         return;
     }
-    print(b"prefix of ");
-    print_sum(wire::part_of(&zeros, 0, n));
+    print(rt, b"prefix of ");
+    print_sum(rt, wire::part_of(&zeros, 0, n));
 }
 
 // The prefix, and the two parts of the transcript whose hash follows it.
-pub fn print_signed(s: State, transcript: &[u8]) {
-    print(b" [");
-    print_prefix(s);
-    print(b"; hashed ");
-    print_sum(signing::first_part(s, transcript));
-    print(b" and ");
-    print_sum(signing::second_part(s, transcript));
-    print(b"]");
+pub fn print_signed(rt: &impl Print, s: State, transcript: &[u8]) {
+    print(rt, b" [");
+    print_prefix(rt, s);
+    print(rt, b"; hashed ");
+    print_sum(rt, signing::first_part(s, transcript));
+    print(rt, b" and ");
+    print_sum(rt, signing::second_part(s, transcript));
+    print(rt, b"]");
 }

@@ -106,39 +106,43 @@ pub fn number(line: &[u8], n: usize) -> u32 {
 }
 
 // The number of a word as a byte; says so where it is none.
-pub fn byte(word: &[u8]) -> u8 {
+pub fn byte(rt: &impl Print, word: &[u8]) -> u8 {
     let n = decimal(word);
     if 255 < n {
-        print(b"a word is no byte\n");
+        print(rt, b"a word is no byte\n");
         return 0;
     }
     n as u8
 }
 
 // The byte of two hex digits; says so where one is none.
-fn hex_pair(high: u8, low: u8) -> u8 {
+fn hex_pair(rt: &impl Print, high: u8, low: u8) -> u8 {
     let h = hex_value(high);
     let l = hex_value(low);
     if 15 < h {
-        print(b"a word is not in hex\n");
+        print(rt, b"a word is not in hex\n");
         return 0;
     }
     if 15 < l {
-        print(b"a word is not in hex\n");
+        print(rt, b"a word is not in hex\n");
         return 0;
     }
     h * 16 + l
 }
 
 // The bytes of a word of hex digits from a place of out on, and where they end. A single '-' stands for no bytes.
-pub fn decode(word: &[u8], out: &mut [u8], at: usize) -> usize {
+pub fn decode(rt: &impl Print, word: &[u8], out: &mut [u8], at: usize) -> usize {
     if check::same(word, b"-") {
         return at;
     }
     let mut end = at;
     for i in 0..word.len() / 2 + word.len() % 2 {
-        let b = hex_pair(wire::byte_at(word, i * 2), wire::byte_at(word, i * 2 + 1));
-        end = put(out, end, &[b]);
+        let b = hex_pair(
+            rt,
+            wire::byte_at(word, i * 2),
+            wire::byte_at(word, i * 2 + 1),
+        );
+        end = put(rt, out, end, &[b]);
     }
     end
 }

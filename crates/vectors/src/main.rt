@@ -1,4 +1,8 @@
 // Runs the test vectors: each file of data/, line by line. Prints the lines on which something else comes out, and how many agree.
+#![tactic(auto)]
+
+ghost use Rattle.std.specs.Prelude.{◌≤◌, length};
+
 mod fields;
 mod images;
 mod program;
@@ -10,6 +14,9 @@ mod writer;
 
 use fields::{find, line_at, more, rest};
 use rules::State;
+use std::fs;
+use std::io::Read;
+use std::rt::Files;
 use text::{print, print_number};
 
 // Room for a file, for an image, for a transcript, for a message, and for what comes out of a line.
@@ -27,7 +34,7 @@ const TEXT: usize = 131200;
 const FILL: u8 = 165;
 
 // What a file's lines are.
-#[derive(Drop)]
+#[derive(Clone, Copy)]
 enum Kind {
     Images,
     Writer,
@@ -35,7 +42,7 @@ enum Kind {
     Runs,
 }
 
-#[derive(Drop)]
+#[derive(Clone, Copy)]
 struct Progress {
     // where the line starts, and its number
     at: usize,
@@ -66,18 +73,25 @@ fn before_first() -> Progress {
     }
 }
 
-fn print_difference(lines: usize, given: &[u8], wanted: &[u8]) {
-    print(b"line ");
-    print_number(lines);
-    print(b": ");
-    print(given);
-    print(b", not ");
-    print(wanted);
-    print(b"\n");
+fn print_difference(rt: &impl Print, lines: usize, given: &[u8], wanted: &[u8]) {
+    print(rt, b"line ");
+    print_number(rt, lines);
+    print(rt, b": ");
+    print(rt, given);
+    print(rt, b", not ");
+    print(rt, wanted);
+    print(rt, b"\n");
 }
 
 // Holds what came out, which ends at a place of text, to a line from a word on; where they differ, prints both.
-fn agreed(line: &[u8], from: usize, p: Progress, text: &[u8; TEXT], end: usize) -> Progress {
+fn agreed(
+    rt: &impl Print,
+    line: &[u8],
+    from: usize,
+    p: Progress,
+    text: &[u8; TEXT],
+    end: usize,
+) -> Progress {
     let wanted = rest(line, from);
     let given = wire::part_of(text, 0, end);
     let mut next = p;
@@ -85,13 +99,14 @@ fn agreed(line: &[u8], from: usize, p: Progress, text: &[u8; TEXT], end: usize) 
     if check::same(given, wanted) {
         next.agree = more(p.agree);
     } else {
-        print_difference(p.lines, given, wanted);
+        print_difference(rt, p.lines, given, wanted);
     }
     next
 }
 
 // Takes a line.
 fn turn(
+    rt: &impl Print,
     kind: Kind,
     file: &[u8],
     p: Progress,
@@ -102,23 +117,23 @@ fn turn(
     let line = line_at(file, p.at);
     match kind {
         Kind::Images => {
-            let end = images::put_read(text, line);
-            agreed(line, 1, p, text, end)
+            let end = images::put_read(rt, text, line);
+            agreed(rt, line, 1, p, text, end)
         }
         Kind::Writer => {
-            let end = writer::put_written(text, line);
-            agreed(line, 3, p, text, end)
+            let end = writer::put_written(rt, text, line);
+            agreed(rt, line, 3, p, text, end)
         }
         Kind::Program => {
-            let end = program::put_made(text, line, p.lines);
-            agreed(line, 1, p, text, end)
+            let end = program::put_made(rt, text, line, p.lines);
+            agreed(rt, line, 1, p, text, end)
         }
-        Kind::Runs => runs::take_line(file, line, p, transcript, awaited, text),
+        Kind::Runs => runs::take_line(rt, file, line, p, transcript, awaited, text),
     }
 }
 
 // All lines of a file.
-fn take_lines(kind: Kind, file: &[u8]) -> Progress {
+fn take_lines(rt: &impl Print, kind: Kind, file: &[u8]) -> Progress {
     let mut transcript = [0u8; TRANSCRIPT];
     let mut awaited = [0u8; MESSAGE];
     let mut text = [0u8; TEXT];
@@ -128,45 +143,63 @@ fn take_lines(kind: Kind, file: &[u8]) -> Progress {
             break;
         }
         p.lines = more(k);
-        p = turn(kind, file, p, &mut transcript, &mut awaited, &mut text);
+        p = turn(rt, kind, file, p, &mut transcript, &mut awaited, &mut text);
         p.at = more(find(file, p.at, b'\n'));
     }
     p
 }
 
+// Reads until space is full, the input ends or a read fails, and answers how many bytes there are then.
+fn read_full(input: &mut impl Read, space: &mut [u8]) -> usize
+    ensures { result ≤ length space.new }
+{
+    let mut done = 0;
+    while done < space.len() {
+        let Ok(n) = input.read(&mut space[done..]) else {
+            break;
+        };
+        if n == 0 {
+            break;
+        }
+        done += n;
+    }
+    done
+}
+
 // Puts a file at the start of space, and answers its length, 0 where it cannot be opened; says so where it is too long.
-fn load(path: &[u8], space: &mut [u8; FILE]) -> usize {
-    let fd = os::open_read(path);
-    let n = io::read_full(fd, space);
-    libc::close(fd);
+fn load(rt: &(impl Files + Print), path: &str, space: &mut [u8; FILE]) -> usize {
+    let Ok(mut file) = fs::open(rt, path) else {
+        return 0;
+    };
+    let n = read_full(&mut file, space);
     if n == FILE {
-        print(b"no room\n");
+        print(rt, b"no room\n");
     }
     n
 }
 
 // All lines of a file that is the first bytes of space.
-fn take_file(kind: Kind, space: &[u8; FILE], n: usize) -> Progress {
-    take_lines(kind, wire::part_of(space, 0, n))
+fn take_file(rt: &impl Print, kind: Kind, space: &[u8; FILE], n: usize) -> Progress {
+    take_lines(rt, kind, wire::part_of(space, 0, n))
 }
 
 // Runs a file of data/.
-fn run(path: &[u8], kind: Kind) {
+fn run(rt: &(impl Files + Print), path: &str, kind: Kind) {
     let mut space = [0u8; FILE];
-    let n = load(path, &mut space);
-    let p = take_file(kind, &space, n);
-    print(path);
-    print(b": ");
-    print_number(p.agree);
-    print(b" of ");
-    print_number(p.results);
-    print(b" agree\n");
+    let n = load(rt, path, &mut space);
+    let p = take_file(rt, kind, &space, n);
+    print(rt, path.as_bytes());
+    print(rt, b": ");
+    print_number(rt, p.agree);
+    print(rt, b" of ");
+    print_number(rt, p.results);
+    print(rt, b" agree\n");
 }
 
 // The files of data/, each with what its lines are.
-fn main() {
-    run(b"images.txt", Kind::Images);
-    run(b"writer.txt", Kind::Writer);
-    run(b"program.txt", Kind::Program);
-    run(b"runs.txt", Kind::Runs);
+fn main(rt: HostRuntime) {
+    run(&rt, "images.txt", Kind::Images);
+    run(&rt, "writer.txt", Kind::Writer);
+    run(&rt, "program.txt", Kind::Program);
+    run(&rt, "runs.txt", Kind::Runs);
 }

@@ -43,22 +43,27 @@ fn make(text: &[u8], step: usize, image: &mut [u8; IMAGE_LIMIT]) -> Written {
 }
 
 // What is written, in hex: the image, or the number in decimal.
-fn put_given(text: &mut [u8; TEXT], written: Written, image: &[u8; IMAGE_LIMIT]) -> usize {
+fn put_given(
+    rt: &impl Print,
+    text: &mut [u8; TEXT],
+    written: Written,
+    image: &[u8; IMAGE_LIMIT],
+) -> usize {
     match written {
-        Written::Image(n) => put_hex(text, 0, wire::part_of(image, 0, n)),
+        Written::Image(n) => put_hex(rt, text, 0, wire::part_of(image, 0, n)),
         Written::Refused(number) => {
             let mut digits = [0u8; 20];
             let k = io::decimal(number as u64, &mut digits);
-            put_hex(text, 0, &digits[..k])
+            put_hex(rt, text, 0, &digits[..k])
         }
     }
 }
 
 // What is written of a line's text, as the vectors have it.
-pub fn put_made(text: &mut [u8; TEXT], line: &[u8], lines: usize) -> usize {
+pub fn put_made(rt: &impl Print, text: &mut [u8; TEXT], line: &[u8], lines: usize) -> usize {
     let mut space = [0u8; IMAGE];
-    let n = decode(word(line, 0), &mut space, 0);
+    let n = decode(rt, word(line, 0), &mut space, 0);
     let mut image = [0u8; IMAGE_LIMIT];
     let written = make(wire::part_of(&space, 0, n), lines % PART, &mut image);
-    put_given(text, written, &image)
+    put_given(rt, text, written, &image)
 }

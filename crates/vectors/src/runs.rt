@@ -90,6 +90,7 @@ fn due(reply: Reply, state: State) -> bool {
 
 // What a call gave, as the vectors have it.
 fn put_given(
+    rt: &impl Print,
     text: &mut [u8; TEXT],
     o: Outcome,
     before: &[u8],
@@ -98,16 +99,17 @@ fn put_given(
 ) -> usize {
     let reply = o.reply;
     let n = answer_length(reply);
-    let number = put_decimal(text, 0, host_number(reply));
-    let space = put(text, number, b" ");
-    let hex = put_hex(text, space, wire::part_of(answer, 0, n));
-    let state = put_state(text, hex, o.state);
-    let end = put_checksum(text, state, transcript);
-    put_changed(text, end, before, answer, n)
+    let number = put_decimal(rt, text, 0, host_number(reply));
+    let space = put(rt, text, number, b" ");
+    let hex = put_hex(rt, text, space, wire::part_of(answer, 0, n));
+    let state = put_state(rt, text, hex, o.state);
+    let end = put_checksum(rt, text, state, transcript);
+    put_changed(rt, text, end, before, answer, n)
 }
 
 // The run after a call.
 fn after_call(
+    rt: &impl Print,
     p: Progress,
     o: Outcome,
     before: &[u8; MESSAGE],
@@ -119,6 +121,7 @@ fn after_call(
     let state = o.state;
     let mut next = p;
     next.given = put_given(
+        rt,
         text,
         o,
         before,
@@ -142,6 +145,7 @@ fn keep(before: State, after: State, answer: &[u8; MESSAGE], awaited: &mut [u8; 
 
 // R image answer_len transcript_len nonce request: a request.
 fn take_request(
+    rt: &impl Print,
     line: &[u8],
     p: Progress,
     image: &[u8],
@@ -150,9 +154,9 @@ fn take_request(
     text: &mut [u8; TEXT],
 ) -> Progress {
     let mut nonce = [0u8; NONCE];
-    let k = decode(word(line, 4), &mut nonce, 0);
+    let k = decode(rt, word(line, 4), &mut nonce, 0);
     let mut request = [0u8; MESSAGE];
-    let n = decode(word(line, 5), &mut request, 0);
+    let n = decode(rt, word(line, 5), &mut request, 0);
     let before = [FILL; MESSAGE];
     let mut answer = [FILL; MESSAGE];
     let lent = io::count(number(line, 2) as isize, &answer);
@@ -166,11 +170,12 @@ fn take_request(
         wire::part_of(&nonce, 0, k),
     );
     keep(p.state, o.state, &answer, awaited);
-    after_call(p, o, &before, &answer, transcript, text)
+    after_call(rt, p, o, &before, &answer, transcript, text)
 }
 
 // F image answer_len transcript_len chip signature: a finishing.
 fn take_finishing(
+    rt: &impl Print,
     line: &[u8],
     p: Progress,
     image: &[u8],
@@ -179,7 +184,7 @@ fn take_finishing(
     text: &mut [u8; TEXT],
 ) -> Progress {
     let mut signature = [0u8; MESSAGE];
-    let n = decode(word(line, 5), &mut signature, 0);
+    let n = decode(rt, word(line, 5), &mut signature, 0);
     let mut answer = [FILL; MESSAGE];
     wire::copy_into(
         &mut answer,
@@ -196,11 +201,12 @@ fn take_finishing(
         number(line, 4) == 1,
         wire::part_of(&signature, 0, n),
     );
-    after_call(p, o, &before, &answer, transcript, text)
+    after_call(rt, p, o, &before, &answer, transcript, text)
 }
 
 // A request or a finishing.
 fn take_call(
+    rt: &impl Print,
     file: &[u8],
     line: &[u8],
     p: Progress,
@@ -210,40 +216,54 @@ fn take_call(
 ) -> Progress {
     let mut space = [0u8; IMAGE];
     let n = decode(
+        rt,
         word(image_line(file, p.first, word(line, 1)), 2),
         &mut space,
         0,
     );
     let image = wire::part_of(&space, 0, n);
     if wire::byte_at(line, 0) == b'F' {
-        return take_finishing(line, p, image, transcript, awaited, text);
+        return take_finishing(rt, line, p, image, transcript, awaited, text);
     }
-    take_request(line, p, image, transcript, awaited, text)
+    take_request(rt, line, p, image, transcript, awaited, text)
 }
 
 // = number answer words crc: what the last call is to give. Where the line H that is due does not follow, a word more comes out.
-fn take_given(file: &[u8], line: &[u8], p: Progress, text: &mut [u8; TEXT]) -> Progress {
+fn take_given(
+    rt: &impl Print,
+    file: &[u8],
+    line: &[u8],
+    p: Progress,
+    text: &mut [u8; TEXT],
+) -> Progress {
     let below = line_at(file, more(find(file, p.at, b'\n')));
     let mut end = p.given;
     if p.due && wire::byte_at(below, 0) != b'H' {
-        end = put(text, end, b" H");
+        end = put(rt, text, end, b" H");
     }
-    agreed(line, 1, p, text, end)
+    agreed(rt, line, 1, p, text, end)
 }
 
 // H prefix_len hash_len crc: what is to be signed after a call; where it is not due, nothing comes out.
-fn take_signed(line: &[u8], p: Progress, transcript: &[u8], text: &mut [u8; TEXT]) -> Progress {
+fn take_signed(
+    rt: &impl Print,
+    line: &[u8],
+    p: Progress,
+    transcript: &[u8],
+    text: &mut [u8; TEXT],
+) -> Progress {
     let mut end = 0;
     if p.due {
-        end = put_signed(text, p.state, wire::part_of(transcript, 0, p.room));
+        end = put_signed(rt, text, p.state, wire::part_of(transcript, 0, p.room));
     }
-    let mut next = agreed(line, 1, p, text, end);
+    let mut next = agreed(rt, line, 1, p, text, end);
     next.due = false;
     next
 }
 
 // A line of a run. Any that has no other letter is what the last call is to give.
 pub fn take_line(
+    rt: &impl Print,
     file: &[u8],
     line: &[u8],
     p: Progress,
@@ -255,8 +275,8 @@ pub fn take_line(
         b'I' => take_image(line, p),
         b'T' => take_transcript(line, p, transcript),
         b'S' => take_state(line, p, awaited),
-        b'R' | b'F' => take_call(file, line, p, transcript, awaited, text),
-        b'H' => take_signed(line, p, transcript, text),
-        _ => take_given(file, line, p, text),
+        b'R' | b'F' => take_call(rt, file, line, p, transcript, awaited, text),
+        b'H' => take_signed(rt, line, p, transcript, text),
+        _ => take_given(rt, file, line, p, text),
     }
 }

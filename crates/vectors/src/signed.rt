@@ -32,28 +32,40 @@ fn prefix_length(s: State, prefix: &[u8; PREFIX]) -> usize {
 }
 
 // The bytes to hash, from a place on.
-fn put_hashed(out: &mut [u8; SIGNED], at: usize, s: State, transcript: &[u8]) -> usize {
-    let second = put(out, at, signing::first_part(s, transcript));
-    put(out, second, signing::second_part(s, transcript))
+fn put_hashed(
+    rt: &impl Print,
+    out: &mut [u8; SIGNED],
+    at: usize,
+    s: State,
+    transcript: &[u8],
+) -> usize {
+    let second = put(rt, out, at, signing::first_part(s, transcript));
+    put(rt, out, second, signing::second_part(s, transcript))
 }
 
 // The lengths of a prefix and of what follows it up to an end, and the CRC-32 of both.
-fn put_lengths(text: &mut [u8; TEXT], signed: &[u8; SIGNED], prefix: usize, end: usize) -> usize {
-    let length = put_decimal(text, 0, prefix);
-    let space = put(text, length, b" ");
-    let crc = put_decimal(text, space, between(signed, prefix, end).len());
-    put_checksum(text, crc, between(signed, 0, end))
+fn put_lengths(
+    rt: &impl Print,
+    text: &mut [u8; TEXT],
+    signed: &[u8; SIGNED],
+    prefix: usize,
+    end: usize,
+) -> usize {
+    let length = put_decimal(rt, text, 0, prefix);
+    let space = put(rt, text, length, b" ");
+    let crc = put_decimal(rt, text, space, between(signed, prefix, end).len());
+    put_checksum(rt, text, crc, between(signed, 0, end))
 }
 
 // What is to be signed, as the vectors have it.
-pub fn put_signed(text: &mut [u8; TEXT], s: State, transcript: &[u8]) -> usize {
+pub fn put_signed(rt: &impl Print, text: &mut [u8; TEXT], s: State, transcript: &[u8]) -> usize {
     let before = [FILL; PREFIX];
     let mut prefix = before;
     signing::write_prefix(s, &mut prefix);
     let n = prefix_length(s, &prefix);
     let mut signed = [0u8; SIGNED];
-    let hashed = put(&mut signed, 0, wire::part_of(&prefix, 0, n));
-    let end = put_hashed(&mut signed, hashed, s, transcript);
-    let last = put_lengths(text, &signed, hashed, end);
-    put_changed(text, last, &before, &prefix, n)
+    let hashed = put(rt, &mut signed, 0, wire::part_of(&prefix, 0, n));
+    let end = put_hashed(rt, &mut signed, hashed, s, transcript);
+    let last = put_lengths(rt, text, &signed, hashed, end);
+    put_changed(rt, text, last, &before, &prefix, n)
 }

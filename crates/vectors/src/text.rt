@@ -1,6 +1,5 @@
 // What is printed, and text put together in a lent buffer: each function puts it from a place on, and answers where it ends.
 use crate::TEXT;
-use libc::STDOUT_FILENO;
 
 const HEX_DIGITS: [u8; 16] = *b"0123456789abcdef";
 
@@ -10,49 +9,49 @@ const FOUR_BITS: [u32; 16] = [
     0xEDB88320, 0xF00F9344, 0xD6D6A3E8, 0xCB61B38C, 0x9B64C2B0, 0x86D3D2D4, 0xA00AE278, 0xBDBDF21C,
 ];
 
-pub fn print(text: &[u8]) {
-    io::write_all(STDOUT_FILENO, text);
+pub fn print(rt: &impl Print, text: &[u8]) {
+    let _ = rt.write_all(text);
 }
 
-pub fn print_number(n: usize) {
-    io::print_decimal(STDOUT_FILENO, n as u64);
+pub fn print_number(rt: &impl Print, n: usize) {
+    let _ = rt.print(n);
 }
 
 // Bytes as they are; says so where there is no room for them.
-pub fn put(text: &mut [u8], at: usize, bytes: &[u8]) -> usize {
+pub fn put(rt: &impl Print, text: &mut [u8], at: usize, bytes: &[u8]) -> usize {
     if text.len() <= at {
-        print(b"no room\n");
+        print(rt, b"no room\n");
         return at;
     }
     if text.len() - at < bytes.len() {
-        print(b"no room\n");
+        print(rt, b"no room\n");
         return at;
     }
     wire::copy_into(text, at, bytes);
     at + bytes.len()
 }
 
-pub fn put_decimal(text: &mut [u8; TEXT], at: usize, n: usize) -> usize {
+pub fn put_decimal(rt: &impl Print, text: &mut [u8; TEXT], at: usize, n: usize) -> usize {
     let mut digits = [0u8; 20];
     let k = io::decimal(n as u64, &mut digits);
-    put(text, at, &digits[..k])
+    put(rt, text, at, &digits[..k])
 }
 
 // A number with a space before it.
-pub fn put_word(text: &mut [u8; TEXT], at: usize, n: u32) -> usize {
-    let space = put(text, at, b" ");
-    put_decimal(text, space, n as usize)
+pub fn put_word(rt: &impl Print, text: &mut [u8; TEXT], at: usize, n: u32) -> usize {
+    let space = put(rt, text, at, b" ");
+    put_decimal(rt, text, space, n as usize)
 }
 
 // Bytes in hex, a single '-' for none.
-pub fn put_hex(text: &mut [u8; TEXT], at: usize, bytes: &[u8]) -> usize {
+pub fn put_hex(rt: &impl Print, text: &mut [u8; TEXT], at: usize, bytes: &[u8]) -> usize {
     if bytes.len() == 0 {
-        return put(text, at, b"-");
+        return put(rt, text, at, b"-");
     }
     let mut end = at;
     for i in 0..bytes.len() {
         let b = wire::wide(bytes[i]);
-        end = put(text, end, &[HEX_DIGITS[b / 16], HEX_DIGITS[b % 16]]);
+        end = put(rt, text, end, &[HEX_DIGITS[b / 16], HEX_DIGITS[b % 16]]);
     }
     end
 }
@@ -75,10 +74,11 @@ fn crc32(s: &[u8]) -> u32 {
 }
 
 // The CRC-32 of bytes in hex, with a space before it.
-pub fn put_checksum(text: &mut [u8; TEXT], at: usize, s: &[u8]) -> usize {
+pub fn put_checksum(rt: &impl Print, text: &mut [u8; TEXT], at: usize, s: &[u8]) -> usize {
     let crc = crc32(s);
-    let space = put(text, at, b" ");
+    let space = put(rt, text, at, b" ");
     put_hex(
+        rt,
         text,
         space,
         &[
@@ -92,6 +92,7 @@ pub fn put_checksum(text: &mut [u8; TEXT], at: usize, s: &[u8]) -> usize {
 
 // A word that the vectors do not have, where a byte from a place on is not as it was before.
 pub fn put_changed(
+    rt: &impl Print,
     text: &mut [u8; TEXT],
     at: usize,
     before: &[u8],
@@ -102,5 +103,5 @@ pub fn put_changed(
     if check::same(rest, wire::part_of(before, from, before.len())) {
         return at;
     }
-    put(text, at, b" changed")
+    put(rt, text, at, b" changed")
 }

@@ -26,19 +26,19 @@ pub fn state_of(line: &[u8]) -> State {
     }
 }
 
-pub fn put_state(text: &mut [u8; TEXT], at: usize, s: State) -> usize {
+pub fn put_state(rt: &impl Print, text: &mut [u8; TEXT], at: usize, s: State) -> usize {
     let n = s.negotiated;
     let u = s.used;
     let w = s.awaited;
-    let phase = put_word(text, at, n.phase);
-    let peer = put_word(text, phase, n.peer);
-    let selection = put_word(text, peer, n.selection);
-    let a = put_word(text, selection, u.a);
-    let b = put_word(text, a, u.b);
-    let m = put_word(text, b, u.m);
-    let whose = put_word(text, m, w.whose);
-    let length = put_word(text, whose, w.length);
-    put_word(text, length, n.edition)
+    let phase = put_word(rt, text, at, n.phase);
+    let peer = put_word(rt, text, phase, n.peer);
+    let selection = put_word(rt, text, peer, n.selection);
+    let a = put_word(rt, text, selection, u.a);
+    let b = put_word(rt, text, a, u.b);
+    let m = put_word(rt, text, b, u.m);
+    let whose = put_word(rt, text, m, w.whose);
+    let length = put_word(rt, text, whose, w.length);
+    put_word(rt, text, length, n.edition)
 }
 
 // Whether a signature is awaited.
