@@ -1,6 +1,7 @@
-# make demo: a panel questions boxes with real signatures. make test: the gate, what .ci/run calls. make fuzz: the sanitizers.
-# make bench: the library's times and instructions beside plain and tuned Rust's. make library TARGET=..: the library for
-# another processor. make test-targets: those libraries on emulated processors.
+# make demo: a panel questions boxes with real signatures. make test: the gate, .ci/run: rt ci, then make library-test, the
+# library and the bench's programs tested from C, shell and Rust. make fuzz: the sanitizers. make bench: the library's times and
+# instructions beside plain and tuned Rust's. make library TARGET=..: the library for another processor. make test-targets:
+# those libraries on emulated processors.
 CARGO := cargo
 RUST := --offline --release --manifest-path rust/Cargo.toml
 
@@ -9,7 +10,7 @@ RUST := --offline --release --manifest-path rust/Cargo.toml
 include demo.mk
 include targets.mk
 
-.PHONY: test rust-test bench proved
+.PHONY: test library-test rust-test bench
 
 rust-test: $(RESPONDER_LIB) $(MAKE_IMAGE)
 	$(CARGO) test -q $(RUST)
@@ -17,11 +18,7 @@ rust-test: $(RESPONDER_LIB) $(MAKE_IMAGE)
 bench: $(RESPONDER_LIB)
 	$(CARGO) run -q $(RUST) --bin bench
 
-# What the tests link and run, proved side by side; the targets below then find it proved.
-proved:
-	rt check responder signing make_image image_info
+library-test: fuzz-short demo-sanitized demo-image host-example bench-tools rust-test
 
-# rt ci removes target/ and proves everything from nothing, so it comes last.
-test: proved fuzz-short demo-sanitized demo-image host-example bench-tools rust-test
-	rt fmt --check
-	rt ci
+test:
+	.ci/run

@@ -26,21 +26,27 @@ OPENSSL_PACKAGE := apt-get install -y libssl-dev
 
 .PHONY: demo demo-image demo-sanitized host-example bench-tools fuzz fuzz-short fuzz-libfuzzer fuzz-driver openssl-headers
 
-SOURCES := crates.txt $(shell find crates -name '*.rt' -o -name '*.antt' 2>/dev/null)
+SOURCES := crates.txt $(shell find crates -name out -prune -o \( -name '*.rt' -o -name '*.antt' \) -print 2>/dev/null)
 
 # $(call told,COMMAND,LOG): of rt's output a line a crate is shown; the prover's notes are in the log.
 told = @mkdir -p target; { $(1) 2>&1; echo $$? >$(2).status; } | tee $(2) | grep --line-buffered '^rt: '; \
     test "$$(cat $(2).status)" = 0 || { tail -30 $(2); exit 1; }
 
-# One run of rt gives both: the archive, for x86-64, and the module that it was compiled from, for libFuzzer and for other
-# processors. rt proves only what has changed; their dates then stand for all sources.
+# rt works in a crate's folder, in whose out/ it leaves what it makes, and proves only what has changed; their dates then stand for
+# all sources. --cpu: code for every x86-64 processor, where the kit would take one with SSE4.2.
 RESPONDER_MODULE := target/module/spdm_responder.bc
+RESPONDER_RT := lib --cpu x86-64
 
-target/staticlib/libspdm_responder.a $(RESPONDER_MODULE) &: $(SOURCES) targets/module
-	@echo "proving the library, a few minutes the first time (notes: target/demo-proof.log)"
-	@mkdir -p target/module
-	$(call told,targets/module $(RESPONDER_MODULE),target/demo-proof.log)
-	@touch target/staticlib/libspdm_responder.a $(RESPONDER_MODULE)
+target/staticlib/libspdm_responder.a: $(SOURCES)
+	@echo "proving the library, some minutes the first time (notes: target/demo-proof.log)"
+	$(call told,(cd crates/spdm_responder && rt $(RESPONDER_RT)),target/demo-proof.log)
+	@mkdir -p $(@D)
+	cp crates/spdm_responder/out/libspdm_responder.a $@
+
+# The module that the archive was compiled from, for libFuzzer and for other processors.
+$(RESPONDER_MODULE): target/staticlib/libspdm_responder.a targets/module
+	@mkdir -p $(@D)
+	$(call told,targets/module $@ $(RESPONDER_RT),target/module.log)
 
 $(HOST_OUT):
 	mkdir -p $@
@@ -61,17 +67,16 @@ $(HOST_OUT)/demo: $(HOST_OBJECTS) $(RESPONDER_LIB)
 demo: $(HOST_OUT)/demo
 	$(HOST_OUT)/demo
 
-# The bench's programs, dated as the archive is, and behind it: one rt runs at a time.
+# The bench's programs: rt builds a program to run it, here on nothing. Behind the archive, since one rt runs at a time.
 MAKE_IMAGE := target/bin/make_image
 IMAGE_INFO := target/bin/image_info
 
-$(MAKE_IMAGE): $(SOURCES) | $(RESPONDER_LIB)
-	$(call told,rt check make_image,target/make-image-proof.log)
-	@touch -c $@
+$(MAKE_IMAGE) $(IMAGE_INFO): target/bin/%: $(SOURCES) | $(RESPONDER_LIB)
+	$(call told,(cd crates/$* && rt run </dev/null),target/$*-proof.log)
+	@mkdir -p $(@D)
+	cp crates/$*/out/$* $@
 
-$(IMAGE_INFO): $(SOURCES) | $(RESPONDER_LIB) $(MAKE_IMAGE)
-	$(call told,rt check image_info,target/image-info-proof.log)
-	@touch -c $@
+$(IMAGE_INFO): | $(MAKE_IMAGE)
 
 bench-tools: $(MAKE_IMAGE) $(IMAGE_INFO)
 	bench/test

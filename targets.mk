@@ -4,12 +4,13 @@
 
 TARGETS := x86_64-linux aarch64-linux armv7-linux cortex-m4 riscv32imc
 
-# The kit's words for x86-64, by which code that the proofs say is never reached traps. The one warning left out: that
-# the module names another target.
+# The kit's words for x86-64: code that the proofs say is never reached traps, and passes of clang's with known faults are left
+# out. The one warning left out: that the module names another target.
 TARGET_FLAGS := --no-default-config -ffunction-sections -fdata-sections -mllvm -trap-unreachable \
-    -mllvm -no-trap-after-noreturn -Werror -Wno-override-module
+    -mllvm -no-trap-after-noreturn -mllvm -no-x86-call-frame-opt -mllvm -disable-machine-licm \
+    -mllvm -disable-postra-machine-licm -mllvm -sink-common-insts=false -Werror -Wno-override-module
 FLAGS_x86_64-linux := --target=x86_64-unknown-linux-gnu -march=x86-64 -O3 -fPIC
-FLAGS_aarch64-linux := --target=aarch64-unknown-linux-gnu -march=armv8-a -O3 -fPIC
+FLAGS_aarch64-linux := --target=aarch64-unknown-linux-gnu -march=armv8-a -mllvm -aarch64-load-store-renaming=false -O3 -fPIC
 FLAGS_armv7-linux := --target=armv7-unknown-linux-gnueabihf -march=armv7-a -mfpu=vfpv3-d16 -mfloat-abi=hard -O3 -fPIC
 FLAGS_cortex-m4 := --target=thumbv7em-none-eabi -mcpu=cortex-m4 -mfloat-abi=soft -Os
 FLAGS_riscv32imc := --target=riscv32-unknown-elf -march=rv32imc -mabi=ilp32 -Os

@@ -27,4 +27,15 @@ void __aeabi_memclr(void *to, size_t length)
 {
     memset(to, 0, length);
 }
+
+// Of what is aligned to 4 and to 8 bytes.
+void __aeabi_memclr4(void *to, size_t length)
+{
+    memset(to, 0, length);
+}
+
+void __aeabi_memclr8(void *to, size_t length)
+{
+    memset(to, 0, length);
+}
 #endif
