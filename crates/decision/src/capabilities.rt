@@ -9,6 +9,7 @@ use rules::limits::{
 use rules::{Decision, Message, Negotiated, Part};
 
 // How long the request and its answer are, by the edition that it chooses.
+#[tactic(auto, using(wire::proofs::Picks::picks))]
 fn capabilities_layout(version: u8) -> usize
     ensures { result ≡ capabilities_layout version }
 {

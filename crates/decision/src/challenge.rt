@@ -7,6 +7,7 @@ use image::{Index, SlotCheck};
 use rules::limits::{ALL_MEASUREMENTS, AWAITS_CHALLENGE, CHALLENGE_LAYOUT, TCB_MEASUREMENTS};
 use rules::{Decision, Exchange, Message, Negotiated, Part, State};
 
+#[tactic(auto, using(wire::proofs::Picks::picks), unfolding(rules::specs::Challenge::summary_fits))]
 fn summary_fits(n: Negotiated, x: u8) -> bool
     ensures { result ≡ summary_fits n x }
 {

@@ -18,6 +18,7 @@ use rules::limits::{
 use rules::{Asked, Awaited, Decision, Exchange, Kind, Message, Negotiated, Part, State, Used};
 
 // What a request code asks for: every code that is not served, RESPOND_IF_READY included, is unsupported.
+#[tactic(auto, using(wire::proofs::Picks::picks), unfolding(rules::specs::Steps::kind_of))]
 pub(crate) fn kind_of(code: u8) -> Asked
     ensures { result ≡ kind_of code }
 {
@@ -47,6 +48,7 @@ pub(crate) fn long_code(n: Negotiated) -> u8
 }
 
 // Step 3: a signature is awaited, and this is no GET_VERSION.
+#[tactic(auto, using(wire::proofs::Picks::picks), unfolding(rules::specs::Steps::must_wait))]
 pub(crate) fn must_wait(w: Awaited, code: u8) -> bool
     ensures { result ≡ must_wait w code }
 {
@@ -60,6 +62,7 @@ pub(crate) fn must_wait(w: Awaited, code: u8) -> bool
 }
 
 // Step 4.
+#[tactic(auto, unfolding(rules::specs::Steps::serves))]
 pub(crate) fn serves_kind(ix: Index, k: Kind) -> bool
     ensures { (b : List ℕ) → result ≡ serves (facts_at b ix) k }
 {
@@ -74,6 +77,7 @@ pub(crate) fn serves_kind(ix: Index, k: Kind) -> bool
     }
 }
 
+#[tactic(auto, using(wire::proofs::Picks::picks))]
 fn is_edition(version: u8) -> bool
     ensures { result ≡ is_edition version }
 {
@@ -94,6 +98,7 @@ fn carries_edition(n: Negotiated, version: u8) -> bool
 }
 
 // Step 5.
+#[tactic(auto, unfolding(rules::specs::Steps::version_fits))]
 pub(crate) fn version_fits(n: Negotiated, version: u8, k: Kind) -> bool
     ensures { result ≡ version_fits n version k }
 {
@@ -108,6 +113,7 @@ pub(crate) fn version_fits(n: Negotiated, version: u8, k: Kind) -> bool
     }
 }
 
+#[tactic(auto, using(wire::proofs::Picks::picks))]
 fn measures(n: Negotiated) -> bool
     ensures { result ≡ pick (eqb n.phase algorithms_phase) (eqb n.selection 1) false }
 {
@@ -118,6 +124,7 @@ fn measures(n: Negotiated) -> bool
 }
 
 // Step 6.
+#[tactic(auto, unfolding(rules::specs::Steps::in_phase))]
 pub(crate) fn in_phase(n: Negotiated, k: Kind) -> bool
     ensures { result ≡ in_phase n k }
 {

@@ -1,4 +1,4 @@
--- What *reads-whole* asks of a requester can be met: one of either edition on a fresh box, computed. Its GET_VERSION lends another image than
+-- What *reads_whole* asks of a requester can be met: one of either edition on a fresh box, computed. Its GET_VERSION lends another image than
 -- the calls that follow. Under 1.2 the peer's size is 42, so it reads the bench's chain of 100 bytes at 0, 34 and 68; under 1.1 one read is
 -- enough. Assumes nothing.
 use mathlib.Core.Path.{◌≡◌, refl}
