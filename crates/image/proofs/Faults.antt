@@ -17,7 +17,6 @@ use Rattle.image.specs.Held.{tcb_summary, full_summary}
 use Rattle.image.specs.Index.{places_of, first_of, answer_of, place_in, digest_at, chain_length_at, chain_part_at, mask_from, mask_at}
 use Rattle.image.specs.Index.{body_place, nth_at, search_from, measurement_at, summary_at}
 use Rattle.image.specs.declared.Index.{Index}
-use Rattle.image.specs.declared.Verdict.TheVariants as verdict
 
 -- "records, each: body length (2 bytes), kind (1), body"; "The image is big-endian"
 abbrev laid : ℕ → List ℕ → List ℕ
@@ -368,20 +367,9 @@ least_index = record {
   first = 0;
 }
 
--- "A refused image has an index of zeros"
-abbrev zeros : Index
-zeros = record {
-  identity = record { exponent = 0; hash = 0; signature = 0 };
-  chains = 0;
-  measurements = 0;
-  places = replicate 8 0;
-  first = 0;
-}
-
 answers :
     map (λ (b : List ℕ). answer_of (reading b)) (image some ∷ image full ∷ smallest.image ∷ behind none ∷ [])
-    ≡ record { verdict = verdict.Accepted; index = some_index } ∷ record { verdict = verdict.Accepted; index = full_index }
-    ∷ record { verdict = verdict.Accepted; index = least_index } ∷ record { verdict = verdict.Refused 4; index = zeros } ∷ []
+    ≡ found some_index ∷ found full_index ∷ found least_index ∷ number 4 ∷ []
 unfolding digest_size pick unless frames_of identity_fault slot_wrong chain_fault measurement_fault summary_fault record_fault end_fault extended
     read_on read_all reading record_bytes records_bytes identity_bytes places_of first_of answer_of
 answers = refl
@@ -399,7 +387,7 @@ unfolding mask_of mask_from pick
 filled = refl
 
 -- past the end of an identity's body a byte is 0
-short : identity_in none ≡ zeros.identity
+short : identity_in none ≡ record { exponent = 0; hash = 0; signature = 0 }
 short = refl
 
 -- "H = 32, 48, 64, 32, 48, 64", "S = 256, 256, 384, 384, 64, 512, 512, 96, 132", none past these; the largest of each; the identity's end

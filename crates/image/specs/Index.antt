@@ -1,29 +1,21 @@
 -- The index that the reader hands out, and what each lookup answers of an image and an index, whatever they are.
-use Rattle.std.specs.Prelude.{List, [], ◌∷◌, ◌++◌, ℕ, zero, suc, ◌+◌, ◌*◌, length, get_or, set, replicate, ltb, eqb}
+use Rattle.std.specs.Prelude.{Option, Some, None, List, [], ◌∷◌, ◌++◌, ℕ, zero, suc, ◌+◌, ◌*◌, length, get_or, set, replicate, ltb, eqb}
 use Rattle.wire.specs.Bytes.{le_at, part}
 use Rattle.wire.specs.Pick.{pick}
 use Rattle.image.specs.Limits.{head_length, slot_length, label_length, slot_count, slot_limit, index_limit, chain_kind}
 use Rattle.image.specs.Sizes.{digest_size}
 use Rattle.image.specs.Contents.{Chain, Measurement, Contents, chain_body, records_bytes, identity_bytes}
 use Rattle.image.specs.Reading.{Result, number, found}
-use Rattle.image.specs.declared.Identity.{Identity}
 use Rattle.image.specs.declared.Index.{Index}
-use Rattle.image.specs.declared.Image.{Image}
-use Rattle.image.specs.declared.Verdict.TheVariants as verdict
-use Rattle.image.specs.declared.SlotCheck.{SlotCheck}
-use Rattle.image.specs.declared.SlotCheck.TheVariants as slotCheck
-use Rattle.image.specs.declared.IndexCheck.{IndexCheck}
-use Rattle.image.specs.declared.IndexCheck.TheVariants as indexCheck
+use Rattle.image.specs.declared.SlotNumber.{SlotNumber}
+use Rattle.image.specs.declared.MeasurementIndex.{MeasurementIndex}
 
 -- a slot number is 0–7, a measurement index 1–239
-unfoldable pub slot_number_of : ℕ → SlotCheck
-slot_number_of b = pick (ltb slot_limit b) slotCheck.OutOfRange (slotCheck.Slot (record { 0 = b }))
+unfoldable pub slot_number_of : ℕ → Option SlotNumber
+slot_number_of b = pick (ltb slot_limit b) None (Some (record { 0 = b }))
 
-unfoldable pub measurement_index_of : ℕ → IndexCheck
-measurement_index_of b =
-    pick (eqb b 0) indexCheck.OutOfRange
-    (pick (ltb index_limit b) indexCheck.OutOfRange
-    (indexCheck.Index (record { 0 = b })))
+unfoldable pub measurement_index_of : ℕ → Option MeasurementIndex
+measurement_index_of b = pick (eqb b 0) None (pick (ltb index_limit b) None (Some (record { 0 = b })))
 
 -- where the body of each slot's record starts, 0 of a slot that is not filled; the records start at a place
 abbrev pub no_places : List ℕ
@@ -51,22 +43,10 @@ index_of c = record {
   first = first_of (chains_end c) c.measurements;
 }
 
-abbrev pub no_identity : Identity
-no_identity = record { exponent = 0; hash = 0; signature = 0 }
-
-abbrev pub no_index : Index
-no_index = record { identity = no_identity; chains = 0; measurements = 0; places = no_places; first = 0 }
-
 -- the reader's answer: the paper's number, or the index of what was found
-abbrev pub refused_by : ℕ → Image
-refused_by k = record { verdict = verdict.Refused k; index = no_index }
-
-abbrev pub accepted_at : Index → Image
-accepted_at ix = record { verdict = verdict.Accepted; index = ix }
-
-unfoldable pub answer_of : Result Contents → Image
-answer_of (number k) = refused_by k
-answer_of (found c) = accepted_at (index_of c)
+unfoldable pub answer_of : Result Contents → Result Index
+answer_of (number k) = number k
+answer_of (found c) = found (index_of c)
 
 -- lookups by slot
 

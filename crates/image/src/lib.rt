@@ -6,9 +6,13 @@ pub mod limits;
 
 ghost use Rattle.std.specs.Prelude.{◌≡◌, ◌≤◌};
 ghost use Rattle.image.specs.Sizes.{digest_size, signature_size, digest_most, signature_most};
+ghost use Rattle.image.specs.Fault.{number_of};
 ghost use Rattle.image.specs.Index.{slot_number_of, measurement_index_of};
 
-use limits::{INDEX_LIMIT, SLOT_LIMIT};
+use limits::{
+    BROKEN_RECORD, INDEX_LIMIT, SLOT_LIMIT, TOO_MANY, WRONG_FIELD, WRONG_KIND, WRONG_LENGTH,
+    WRONG_OWN_LENGTH, WRONG_SIZE, WRONG_VERSION,
+};
 
 // Narrow entries: a table that is indexed stands on the stack, and is written there at each call.
 const DIGEST_SIZES: [u8; 6] = [32, 48, 64, 32, 48, 64];
@@ -20,7 +24,7 @@ const SIGNATURE_SIZES: [u16; 9] = [256, 256, 384, 384, 64, 512, 512, 96, 132];
 pub fn digest_size(hash: u8) -> usize
     ensures { (result ≡ digest_size hash) × (result ≤ digest_most) }
 {
-    let n = wire::wide(hash);
+    let n = usize::from(hash);
     if n < 6 { DIGEST_SIZES[n] as usize } else { 0 }
 }
 
@@ -29,7 +33,7 @@ pub fn digest_size(hash: u8) -> usize
 pub fn signature_size(signature: u8) -> usize
     ensures { (result ≡ signature_size signature) × (result ≤ signature_most) }
 {
-    let n = wire::wide(signature);
+    let n = usize::from(signature);
     if n < 9 {
         SIGNATURE_SIZES[n] as usize
     } else {
@@ -41,53 +45,51 @@ pub fn signature_size(signature: u8) -> usize
 #[derive(Clone, Copy)]
 pub struct SlotNumber(u8);
 
-#[derive(Clone, Copy)]
-pub enum SlotCheck {
-    Slot(SlotNumber),
-    OutOfRange,
-}
-
-pub fn slot_number(b: u8) -> SlotCheck
-    ensures { result ≡ slot_number_of b }
-{
-    if SLOT_LIMIT < b {
-        return SlotCheck::OutOfRange;
+impl SlotNumber {
+    #[tactic(auto, using(wire::proofs::Picks::picks), unfolding(crate::specs::Index::slot_number_of))]
+    pub fn new(b: u8) -> Option<SlotNumber>
+        ensures { result ≡ slot_number_of b }
+    {
+        if SLOT_LIMIT < b {
+            return None;
+        }
+        Some(SlotNumber(b))
     }
-    SlotCheck::Slot(SlotNumber(b))
 }
 
-pub fn slot_byte(n: SlotNumber) -> u8
-    ensures { result ≡ n.0 }
-{
-    n.0
+impl From<SlotNumber> for u8 {
+    ghost from_gives = { λ n b. b ≡ n.0 };
+
+    fn from(n: SlotNumber) -> u8 {
+        n.0
+    }
 }
 
 // The index of a measurement, 1 to 239: made only after its test.
 #[derive(Clone, Copy)]
 pub struct MeasurementIndex(u8);
 
-#[derive(Clone, Copy)]
-pub enum IndexCheck {
-    Index(MeasurementIndex),
-    OutOfRange,
+impl MeasurementIndex {
+    #[tactic(auto, using(wire::proofs::Picks::picks), unfolding(crate::specs::Index::measurement_index_of))]
+    pub fn new(b: u8) -> Option<MeasurementIndex>
+        ensures { result ≡ measurement_index_of b }
+    {
+        if b == 0 {
+            return None;
+        }
+        if INDEX_LIMIT < b {
+            return None;
+        }
+        Some(MeasurementIndex(b))
+    }
 }
 
-pub fn measurement_index(b: u8) -> IndexCheck
-    ensures { result ≡ measurement_index_of b }
-{
-    if b == 0 {
-        return IndexCheck::OutOfRange;
-    }
-    if INDEX_LIMIT < b {
-        return IndexCheck::OutOfRange;
-    }
-    IndexCheck::Index(MeasurementIndex(b))
-}
+impl From<MeasurementIndex> for u8 {
+    ghost from_gives = { λ i b. b ≡ i.0 };
 
-pub fn index_byte(i: MeasurementIndex) -> u8
-    ensures { result ≡ i.0 }
-{
-    i.0
+    fn from(i: MeasurementIndex) -> u8 {
+        i.0
+    }
 }
 
 // What the identity record holds: CTExponent, and the bit numbers of BaseHashAlgo and BaseAsymAlgo.
@@ -109,17 +111,40 @@ pub struct Index {
     pub first: u16,
 }
 
-#[derive(Clone, Copy)]
-pub enum Verdict {
-    Accepted,
-    Refused(u8),
+// Why an image is refused.
+#[derive(Clone, Copy, PartialEq, Eq)]
+pub enum Fault {
+    // empty, or longer than the limit
+    WrongSize,
+    WrongVersion,
+    // one or two bytes left for a record's head, or a body that runs past the end
+    BrokenRecord,
+    // unknown, out of sequence, or a needed record missing
+    WrongKind,
+    TooMany,
+    WrongLength,
+    // out of range or not rising
+    WrongField,
+    // a chain's own length field differs
+    WrongOwnLength,
 }
 
-// A refused image has an index of zeros.
-#[derive(Clone, Copy)]
-pub struct Image {
-    pub verdict: Verdict,
-    pub index: Index,
+impl Fault {
+    // The number that the host sees.
+    pub fn number(self) -> u8
+        ensures { result ≡ number_of self }
+    {
+        match self {
+            Fault::WrongSize => WRONG_SIZE,
+            Fault::WrongVersion => WRONG_VERSION,
+            Fault::BrokenRecord => BROKEN_RECORD,
+            Fault::WrongKind => WRONG_KIND,
+            Fault::TooMany => TOO_MANY,
+            Fault::WrongLength => WRONG_LENGTH,
+            Fault::WrongField => WRONG_FIELD,
+            Fault::WrongOwnLength => WRONG_OWN_LENGTH,
+        }
+    }
 }
 
 // What the tests of a record need of the records before it.
