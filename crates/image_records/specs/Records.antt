@@ -3,11 +3,9 @@ use Rattle.std.specs.Prelude.{List, ℕ, ◌+◌, get_or, eqb}
 use Rattle.wire.specs.Pick.{pick}
 use Rattle.image.specs.Limits.{chain_kind, measurement_kind}
 use Rattle.image.specs.Sizes.{digest_size}
-use Rattle.image.specs.Reading.{record_fault}
+use Rattle.image.specs.Reading.{Result, found, unless, record_fault}
 use Rattle.image.specs.declared.Identity.{Identity}
 use Rattle.image.specs.declared.Seen.{Seen}
-use Rattle.image_records.specs.declared.Held.{Held}
-use Rattle.image_records.specs.declared.Held.TheVariants as held
 
 -- right behind the identity
 abbrev pub seen_first : Identity → Seen
@@ -22,8 +20,5 @@ seen_after w kind key =
     (record { size = w.size; chains = w.chains; slot = w.slot; measurements = w.measurements + 1; index = key; summaries = w.summaries })
     (record { size = w.size; chains = w.chains; slot = w.slot; measurements = w.measurements; index = w.index; summaries = w.summaries + 1 }))
 
-unfoldable pub held_of : Seen → ℕ → List ℕ → Held
-held_of w kind body =
-    pick (eqb (record_fault w kind body) 0)
-    (held.Good (seen_after w kind (get_or body 0 0)))
-    (held.Fault (record_fault w kind body))
+unfoldable pub held_of : Seen → ℕ → List ℕ → Result Seen
+held_of w kind body = unless (record_fault w kind body) (found (seen_after w kind (get_or body 0 0)))

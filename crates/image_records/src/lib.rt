@@ -2,24 +2,17 @@
 #![tactic(auto)]
 
 ghost use Rattle.std.specs.Prelude.{◌≡◌, get_or};
-ghost use Rattle.image.specs.Reading.{identity_in, field_fault, identity_fault, chain_fault, measurement_fault, summary_fault};
+ghost use Rattle.image.specs.Fault.{told, fault_told};
+ghost use Rattle.image.specs.Reading.{identity_in, field_fault, identity_fault, slot_wrong, chain_fault, measurement_fault, summary_fault};
 ghost use Rattle.image.specs.Reading.{record_fault, end_fault};
 ghost use Rattle.image_records.specs.Records.{seen_first, seen_after, held_of};
 
 use image::limits::{
     CHAIN_KIND, CHAIN_LEAST, CHAIN_LIMIT, CHAINS_LIMIT, EXPONENT_LIMIT, HASH_LIMIT,
     IDENTITY_LENGTH, INDEX_LIMIT, LABEL_LENGTH, MEASUREMENT_KIND, MEASUREMENTS_LIMIT,
-    SIGNATURE_LIMIT, SLOT_LENGTH, SLOT_LIMIT, SUMMARY_KIND, TOO_MANY, TYPE_LIMIT, WRONG_FIELD,
-    WRONG_KIND, WRONG_LENGTH, WRONG_OWN_LENGTH,
+    SIGNATURE_LIMIT, SLOT_LENGTH, SLOT_LIMIT, SUMMARY_KIND, TYPE_LIMIT,
 };
-use image::{Identity, Seen};
-
-// A record held against those before it: what is seen past it, or the number of its fault.
-#[derive(Drop)]
-pub enum Held {
-    Good(Seen),
-    Fault(u8),
-}
+use image::{Fault, Identity, Seen};
 
 // The fields of an identity record's body.
 pub fn identity_in(body: &[u8]) -> Identity
@@ -46,164 +39,181 @@ pub fn seen_first(id: Identity) -> Seen
     }
 }
 
-fn field_fault(id: Identity) -> u8
-    ensures { result ≡ field_fault id }
+#[tactic(auto, using(wire::proofs::Picks::picks))]
+fn check_fields(id: Identity) -> Result<(), Fault>
+    ensures { fault_told result ≡ field_fault id }
 {
     if EXPONENT_LIMIT < id.exponent {
-        return WRONG_FIELD;
+        return Err(Fault::WrongField);
     }
     if HASH_LIMIT < id.hash {
-        return WRONG_FIELD;
+        return Err(Fault::WrongField);
     }
     if SIGNATURE_LIMIT < id.signature {
-        return WRONG_FIELD;
+        return Err(Fault::WrongField);
     }
-    0
+    Ok(())
 }
 
-// The number of the identity record's first fault, 0 where there is none.
-pub fn identity_fault(body: &[u8]) -> u8
-    ensures { result ≡ identity_fault body.now }
+// The identity record's first fault.
+#[tactic(auto, using(wire::proofs::Picks::picks), unfolding(image::specs::Reading::identity_fault))]
+pub fn check_identity(body: &[u8]) -> Result<(), Fault>
+    ensures { fault_told result ≡ identity_fault body.now }
 {
     if body.len() != IDENTITY_LENGTH {
-        return WRONG_LENGTH;
+        return Err(Fault::WrongLength);
     }
-    field_fault(identity_in(body))
+    check_fields(identity_in(body))
 }
 
-fn chain_fault(w: Seen, body: &[u8]) -> u8
-    ensures { result ≡ chain_fault w body.now }
+// The first slot is 0, a later one is above the last.
+#[tactic(auto, using(wire::proofs::Picks::picks), unfolding(image::specs::Reading::slot_wrong))]
+fn slot_wrong(w: Seen, slot: u8) -> bool
+    ensures { result ≡ slot_wrong w.chains w.slot slot }
+{
+    if w.chains == 0 {
+        0 < slot
+    } else {
+        slot <= w.slot
+    }
+}
+
+#[tactic(auto, using(wire::proofs::Picks::picks), unfolding(image::specs::Reading::chain_fault))]
+fn check_chain(w: Seen, body: &[u8]) -> Result<(), Fault>
+    ensures { fault_told result ≡ chain_fault w body.now }
 {
     if 0 < w.measurements {
-        return WRONG_KIND;
+        return Err(Fault::WrongKind);
     }
     if CHAINS_LIMIT <= w.chains {
-        return TOO_MANY;
+        return Err(Fault::TooMany);
     }
-    let size = wire::wide(w.size);
+    let size = usize::from(w.size);
     if body.len() < SLOT_LENGTH + size + (CHAIN_LEAST + size) {
-        return WRONG_LENGTH;
+        return Err(Fault::WrongLength);
     }
     if SLOT_LENGTH + size + CHAIN_LIMIT < body.len() {
-        return WRONG_LENGTH;
+        return Err(Fault::WrongLength);
     }
     let slot = body[0];
     if SLOT_LIMIT < slot {
-        return WRONG_FIELD;
+        return Err(Fault::WrongField);
     }
-    // The first slot is 0, a later one is above the last.
-    if w.chains == 0 {
-        if 0 < slot {
-            return WRONG_FIELD;
-        }
-    } else if slot <= w.slot {
-        return WRONG_FIELD;
+    if slot_wrong(w, slot) {
+        return Err(Fault::WrongField);
     }
-    let own = wire::get_u16le(body, SLOT_LENGTH + size) as usize;
+    let own = usize::from(wire::get_u16le(body, SLOT_LENGTH + size));
     if own != body.len() - (SLOT_LENGTH + size) {
-        return WRONG_OWN_LENGTH;
+        return Err(Fault::WrongOwnLength);
     }
-    0
+    Ok(())
 }
 
-fn measurement_fault(w: Seen, body: &[u8]) -> u8
-    ensures { result ≡ measurement_fault w body.now }
+#[tactic(auto, using(wire::proofs::Picks::picks), unfolding(image::specs::Reading::measurement_fault))]
+fn check_measurement(w: Seen, body: &[u8]) -> Result<(), Fault>
+    ensures { fault_told result ≡ measurement_fault w body.now }
 {
     if w.chains == 0 {
-        return WRONG_KIND;
+        return Err(Fault::WrongKind);
     }
     if 0 < w.summaries {
-        return WRONG_KIND;
+        return Err(Fault::WrongKind);
     }
     if MEASUREMENTS_LIMIT <= w.measurements {
-        return TOO_MANY;
+        return Err(Fault::TooMany);
     }
-    if body.len() != LABEL_LENGTH + wire::wide(w.size) {
-        return WRONG_LENGTH;
+    if body.len() != LABEL_LENGTH + usize::from(w.size) {
+        return Err(Fault::WrongLength);
     }
     let index = body[0];
     if index <= w.index {
-        return WRONG_FIELD;
+        return Err(Fault::WrongField);
     }
     if INDEX_LIMIT < index {
-        return WRONG_FIELD;
+        return Err(Fault::WrongField);
     }
     if TYPE_LIMIT < body[1] {
-        return WRONG_FIELD;
+        return Err(Fault::WrongField);
     }
-    0
+    Ok(())
 }
 
-fn summary_fault(w: Seen, body: &[u8]) -> u8
-    ensures { result ≡ summary_fault w body.now }
+#[tactic(auto, using(wire::proofs::Picks::picks), unfolding(image::specs::Reading::summary_fault))]
+fn check_summary(w: Seen, body: &[u8]) -> Result<(), Fault>
+    ensures { fault_told result ≡ summary_fault w body.now }
 {
     if w.measurements == 0 {
-        return WRONG_KIND;
+        return Err(Fault::WrongKind);
     }
     if 0 < w.summaries {
-        return WRONG_KIND;
+        return Err(Fault::WrongKind);
     }
-    if body.len() != wire::wide(w.size) + wire::wide(w.size) {
-        return WRONG_LENGTH;
+    let size = usize::from(w.size);
+    if body.len() != size + size {
+        return Err(Fault::WrongLength);
     }
-    0
+    Ok(())
 }
 
-fn record_fault(w: Seen, kind: u8, body: &[u8]) -> u8
-    ensures { result ≡ record_fault w kind body.now }
+#[tactic(auto, using(wire::proofs::Picks::picks), unfolding(image::specs::Reading::record_fault))]
+fn check_record(w: Seen, kind: u8, body: &[u8]) -> Result<(), Fault>
+    ensures { fault_told result ≡ record_fault w kind body.now }
 {
     match kind {
-        CHAIN_KIND => chain_fault(w, body),
-        MEASUREMENT_KIND => measurement_fault(w, body),
-        SUMMARY_KIND => summary_fault(w, body),
-        _ => WRONG_KIND,
+        CHAIN_KIND => check_chain(w, body),
+        MEASUREMENT_KIND => check_measurement(w, body),
+        SUMMARY_KIND => check_summary(w, body),
+        _ => Err(Fault::WrongKind),
     }
 }
 
-// The number of a record that is missing at the end, 0 where there is none.
-pub fn end_fault(w: Seen) -> u8
-    ensures { result ≡ end_fault w }
+// Whether a record is missing at the end.
+#[tactic(auto, using(wire::proofs::Picks::picks), unfolding(image::specs::Reading::end_fault))]
+pub fn check_end(w: Seen) -> Result<(), Fault>
+    ensures { fault_told result ≡ end_fault w }
 {
     if w.chains == 0 {
-        return WRONG_KIND;
+        return Err(Fault::WrongKind);
     }
     if w.measurements == 0 {
-        return 0;
+        return Ok(());
     }
     if w.summaries == 0 {
-        return WRONG_KIND;
+        return Err(Fault::WrongKind);
     }
-    0
+    Ok(())
 }
 
 // What is seen past a good record.
+#[tactic(auto, using(wire::proofs::Picks::picks))]
 fn seen_after(w: Seen, kind: u8, body: &[u8]) -> Seen
     requires { record_fault w kind body.now ≡ 0 }
     ensures { result ≡ seen_after w kind (get_or body.now 0 0) }
 {
     let key = wire::byte_at(body, 0);
-    let mut next = w;
-    if kind == CHAIN_KIND {
-        next.chains = w.chains + 1;
-        next.slot = key;
-        return next;
+    match kind {
+        CHAIN_KIND => Seen {
+            chains: w.chains + 1,
+            slot: key,
+            ..w
+        },
+        MEASUREMENT_KIND => Seen {
+            measurements: w.measurements + 1,
+            index: key,
+            ..w
+        },
+        _ => Seen {
+            summaries: w.summaries + 1,
+            ..w
+        },
     }
-    if kind == MEASUREMENT_KIND {
-        next.measurements = w.measurements + 1;
-        next.index = key;
-        return next;
-    }
-    next.summaries = w.summaries + 1;
-    next
 }
 
-// A record behind the identity.
-pub fn hold(w: Seen, kind: u8, body: &[u8]) -> Held
-    ensures { result ≡ held_of w kind body.now }
+// A record behind the identity, held against those before it: what is seen past it, or its fault.
+#[tactic(auto, using(wire::proofs::Picks::picks), unfolding(crate::specs::Records::held_of, image::specs::Reading::unless))]
+pub fn hold(w: Seen, kind: u8, body: &[u8]) -> Result<Seen, Fault>
+    ensures { told result ≡ held_of w kind body.now }
 {
-    let fault = record_fault(w, kind, body);
-    if fault != 0 {
-        return Held::Fault(fault);
-    }
-    Held::Good(seen_after(w, kind, body))
+    check_record(w, kind, body)?;
+    Ok(seen_after(w, kind, body))
 }
