@@ -12,13 +12,6 @@ ghost use Rattle.image.specs.Index.{body_place, nth_at, measurement_at, summary_
 use image::limits::{HEAD_LENGTH, LABEL_LENGTH, SLOT_COUNT, SLOT_LENGTH};
 use image::{Index, MeasurementIndex, SlotNumber};
 
-// A place, or a number of two bytes, as an index.
-fn wide16(n: u16) -> usize
-    ensures { (result ≡ n) × (result < 65536) }
-{
-    n as usize
-}
-
 // The bytes of a digest.
 fn size_in(ix: Index) -> usize
     ensures { (result ≡ size_in ix) × (result ≤ digest_most) }
@@ -27,15 +20,17 @@ fn size_in(ix: Index) -> usize
 }
 
 // Where the body of a slot's record starts, 0 of a slot that is not filled.
+#[tactic(auto, using(wire::proofs::Picks::picks), unfolding(image::specs::Index::place_in))]
 fn place_in(ix: Index, slot: SlotNumber) -> usize
     ensures { (result ≡ place_in ix slot.0) × (result < 65536) }
 {
-    let k = wire::wide(image::slot_byte(slot));
+    let k = usize::from(u8::from(slot));
+    let places = ix.places;
     if k < SLOT_COUNT {
-        let places = ix.places;
-        return wide16(places[k]);
+        usize::from(places[k])
+    } else {
+        0
     }
-    0
 }
 
 // Where the chain of a record starts whose body starts at a place: behind the slot's number and the digest.
@@ -46,41 +41,16 @@ fn chain_start(ix: Index, at: usize) -> usize
     at + (SLOT_LENGTH + size_in(ix))
 }
 
-// The digest of a slot's chain, empty where the slot is not filled.
-pub fn digest(s: &[u8], ix: Index, slot: SlotNumber) -> &[u8]
-    ensures { result.now ≡ digest_at s.now ix slot.0 }
+// Where the body of the k-th measurement starts, and behind the last that of the summary.
+#[tactic(auto, unfolding(image::specs::Index::body_place))]
+fn body_place(ix: Index, k: usize) -> usize
+    requires { k < 256 }
+    ensures { (result ≡ body_place ix k) × (result < 131072) }
 {
-    let at = place_in(ix, slot);
-    if at == 0 {
-        return wire::part_of(s, 0, 0);
-    }
-    wire::part_of(s, at + SLOT_LENGTH, size_in(ix))
+    usize::from(ix.first) + k * (HEAD_LENGTH + (LABEL_LENGTH + size_in(ix)))
 }
 
-// The length of a slot's chain, which its first two bytes say; 0 where the slot is not filled.
-pub fn chain_length(s: &[u8], ix: Index, slot: SlotNumber) -> usize
-    ensures { result ≡ chain_length_at s.now ix slot.0 }
-{
-    let at = place_in(ix, slot);
-    if at == 0 {
-        return 0;
-    }
-    wide16(wire::get_u16le(s, chain_start(ix, at)))
-}
-
-// len bytes of a slot's chain from an offset on, fewer where the chain ends sooner: an inner part of the lent image.
-pub fn chain_part(s: &[u8], ix: Index, slot: SlotNumber, offset: usize, len: usize) -> &[u8]
-    ensures { result.now ≡ chain_part_at s.now ix slot.0 offset len }
-{
-    let at = place_in(ix, slot);
-    if at == 0 {
-        return wire::part_of(s, 0, 0);
-    }
-    let start = chain_start(ix, at);
-    let chain = wire::part_of(s, start, wide16(wire::get_u16le(s, start)));
-    wire::part_of(chain, offset, len)
-}
-
+#[tactic(auto, using(wire::proofs::Picks::picks))]
 fn bit(place: u16, weight: u8) -> u8
     ensures { (result ≡ pick (eqb place 0) 0 weight) × (result ≤ weight) }
 {
@@ -102,64 +72,106 @@ pub fn slot_mask(ix: Index) -> u8
         + bit(p[7], 128)
 }
 
-// Where the body of the k-th measurement starts, and behind the last that of the summary.
-fn body_place(ix: Index, k: usize) -> usize
-    requires { k < 256 }
-    ensures { (result ≡ body_place ix k) × (result < 131072) }
-{
-    wide16(ix.first) + k * (HEAD_LENGTH + (LABEL_LENGTH + size_in(ix)))
+// An image with the index that was read of it.
+#[derive(Clone, Copy)]
+pub struct Image<'a> {
+    pub bytes: &'a [u8],
+    pub index: Index,
 }
 
-// The k-th measurement as index, type and digest, empty where there is none.
-pub fn nth_measurement(s: &[u8], ix: Index, k: usize) -> &[u8]
-    ensures { result.now ≡ nth_at s.now ix k }
-{
-    let count = wire::wide(ix.measurements);
-    if k < count {
-        return wire::part_of(s, body_place(ix, k), LABEL_LENGTH + size_in(ix));
-    }
-    wire::part_of(s, 0, 0)
-}
-
-// The measurement with an index, as index, type and digest; empty where there is none.
-pub fn measurement(s: &[u8], ix: Index, index: MeasurementIndex) -> &[u8]
-    ensures { result.now ≡ measurement_at s.now ix index.0 }
-{
-    let wanted = image::index_byte(index);
-    let count = wire::wide(ix.measurements);
-    let mut k = 0;
-    while k < count {
-        let entry = nth_measurement(s, ix, k);
-        if wire::byte_at(entry, 0) == wanted {
-            return entry;
+impl<'a> Image<'a> {
+    // The digest of a slot's chain, empty where the slot is not filled.
+    #[tactic(auto, using(wire::proofs::Picks::picks), unfolding(image::specs::Index::digest_at))]
+    pub fn digest(&self, slot: SlotNumber) -> &'a [u8]
+        ensures { result.now ≡ digest_at self.now.bytes.now self.now.index slot.0 }
+    {
+        let at = place_in(self.index, slot);
+        if at == 0 {
+            return &[];
         }
-        k += 1;
+        wire::part_of(self.bytes, at + SLOT_LENGTH, size_in(self.index))
     }
-    wire::part_of(s, 0, 0)
-}
 
-// A summary hash, 0 of the TCB and 1 of all measurements, empty where there is no measurement.
-fn summary(s: &[u8], ix: Index, which: u8) -> &[u8]
-    ensures { result.now ≡ summary_at s.now ix which }
-{
-    let count = wire::wide(ix.measurements);
-    if count == 0 {
-        return wire::part_of(s, 0, 0);
+    // The length of a slot's chain, which its first two bytes say; 0 where the slot is not filled.
+    #[tactic(auto, using(wire::proofs::Picks::picks), unfolding(image::specs::Index::chain_length_at))]
+    pub fn chain_length(&self, slot: SlotNumber) -> usize
+        ensures { result ≡ chain_length_at self.now.bytes.now self.now.index slot.0 }
+    {
+        let at = place_in(self.index, slot);
+        if at == 0 {
+            return 0;
+        }
+        usize::from(wire::get_u16le(self.bytes, chain_start(self.index, at)))
     }
-    let size = size_in(ix);
-    wire::part_of(s, body_place(ix, count) + wire::wide(which) * size, size)
-}
 
-// The summary hash of the TCB's measurements.
-pub fn tcb_summary(s: &[u8], ix: Index) -> &[u8]
-    ensures { result.now ≡ summary_at s.now ix 0 }
-{
-    summary(s, ix, 0)
-}
+    // len bytes of a slot's chain from an offset on, fewer where the chain ends sooner: an inner part of the lent image.
+    #[tactic(auto, using(wire::proofs::Picks::picks), unfolding(image::specs::Index::chain_part_at))]
+    pub fn chain_part(&self, slot: SlotNumber, offset: usize, len: usize) -> &'a [u8]
+        ensures { result.now ≡ chain_part_at self.now.bytes.now self.now.index slot.0 offset len }
+    {
+        let start = chain_start(self.index, place_in(self.index, slot));
+        let chain = wire::part_of(self.bytes, start, self.chain_length(slot));
+        wire::part_of(chain, offset, len)
+    }
 
-// The summary hash of all measurements.
-pub fn full_summary(s: &[u8], ix: Index) -> &[u8]
-    ensures { result.now ≡ summary_at s.now ix 1 }
-{
-    summary(s, ix, 1)
+    // The k-th measurement as index, type and digest, empty where there is none.
+    #[tactic(auto, using(wire::proofs::Picks::picks), unfolding(image::specs::Index::nth_at))]
+    pub fn nth_measurement(&self, k: usize) -> &'a [u8]
+        ensures { result.now ≡ nth_at self.now.bytes.now self.now.index k }
+    {
+        if k < usize::from(self.index.measurements) {
+            return wire::part_of(
+                self.bytes,
+                body_place(self.index, k),
+                LABEL_LENGTH + size_in(self.index),
+            );
+        }
+        &[]
+    }
+
+    // The measurement with an index, as index, type and digest; empty where there is none.
+    #[tactic(auto, using(crate::proofs::Search::search_here, crate::proofs::Search::search_behind, crate::proofs::Search::search_none))]
+    pub fn measurement(&self, index: MeasurementIndex) -> &'a [u8]
+        ensures { result.now ≡ measurement_at self.now.bytes.now self.now.index index.0 }
+    {
+        let wanted = u8::from(index);
+        for k in 0..usize::from(self.index.measurements) {
+            let entry = self.nth_measurement(k);
+            if wire::byte_at(entry, 0) == wanted {
+                return entry;
+            }
+        }
+        &[]
+    }
+
+    // A summary hash, 0 of the TCB and 1 of all measurements, empty where there is no measurement.
+    #[tactic(auto, using(wire::proofs::Picks::picks), unfolding(image::specs::Index::summary_at))]
+    fn summary(&self, which: u8) -> &'a [u8]
+        ensures { result.now ≡ summary_at self.now.bytes.now self.now.index which }
+    {
+        let count = usize::from(self.index.measurements);
+        if count == 0 {
+            return &[];
+        }
+        let size = size_in(self.index);
+        wire::part_of(
+            self.bytes,
+            body_place(self.index, count) + usize::from(which) * size,
+            size,
+        )
+    }
+
+    // The summary hash of the TCB's measurements.
+    pub fn tcb_summary(&self) -> &'a [u8]
+        ensures { result.now ≡ summary_at self.now.bytes.now self.now.index 0 }
+    {
+        self.summary(0)
+    }
+
+    // The summary hash of all measurements.
+    pub fn full_summary(&self) -> &'a [u8]
+        ensures { result.now ≡ summary_at self.now.bytes.now self.now.index 1 }
+    {
+        self.summary(1)
+    }
 }
