@@ -14,8 +14,7 @@ use Rattle.rules.specs.Steps.{invalid}
 use Rattle.rules.specs.Algorithms.{bit_set, length_field, structures_fit, algorithms_next, algorithms_exchange}
 use Rattle.rules.specs.declared.Negotiated.{Negotiated}
 use Rattle.rules.specs.declared.Message.TheVariants as message
-use Rattle.rules.specs.declared.Decision.{Decision}
-use Rattle.rules.specs.declared.Decision.TheVariants.{Accepted}
+use Rattle.rules.specs.Decision.{Decision, Accepted}
 
 -- the decision where the structures fit: our two bits must be set
 abbrev pub offered_step : Facts → Negotiated → List ℕ → Decision

@@ -1,5 +1,6 @@
 -- An accepted request, whichever message answers it: its answer stands at the start of the buffer, so what is appended from there is the
 -- answer's own bytes; with the reply and the state that is all a call promises. Assumes nothing.
+use Rattle.std.specs.Prelude.{Option, Some, None}
 use mathlib.Core.Path.{◌≡◌, refl, sym, ap, ◌∙◌}
 use mathlib.Core.List.{List, [], ◌++◌}
 use Prim.Native.Nat.{ℕ, ◌+◌, ◌≤◌}
@@ -29,14 +30,13 @@ use Rattle.rules.specs.declared.Used.{Used}
 use Rattle.rules.specs.declared.Negotiated.{Negotiated}
 use Rattle.rules.specs.declared.State.{State}
 use Rattle.rules.specs.declared.Operation.{Operation}
-use Rattle.rules.specs.declared.Signer.{Signer}
-use Rattle.rules.specs.declared.Signer.TheVariants as signer
+use Rattle.image.specs.declared.SlotNumber.{SlotNumber}
 use Rattle.rules.specs.declared.Message.{Message}
 use Rattle.rules.specs.declared.Message.TheVariants as message
 use Rattle.rules.specs.declared.Exchange.{Exchange}
-use Rattle.rules.specs.declared.Decision.TheVariants as decision
+use Rattle.rules.specs.Decision as decision
 use Rattle.rules.specs.declared.Outcome.{Outcome}
-use Rattle.rules.specs.declared.Reply.TheVariants as reply
+use Rattle.rules.specs.Reply as reply
 use Rattle.rules.proofs.Told.{Accepted}
 use Rattle.rules.proofs.Ready.{whole_length_lem, added-length, answer-length, answer-most}
 use Rattle.responder.specs.Carried.{Measured, Carried}
@@ -59,9 +59,9 @@ pub same-used : {a b m a' b' m' : ℕ} → a ≡ a' → b ≡ b' → m ≡ m' �
 same-used e f g = rw (e, f, g)
 
 -- no answer ends in more than the longest signature
-signed_few : (f : Facts) (o : Operation) (g : Signer) → (measurements_exchange f o g).signature ≤ signature_most
-signed_few f o signer.Nobody = omega arith
-signed_few f o (signer.Slot k) = signature-most f.identity.signature
+signed_few : (f : Facts) (o : Operation) (g : Option SlotNumber) → (measurements_exchange f o g).signature ≤ signature_most
+signed_few f o None = omega arith
+signed_few f o (Some k) = signature-most f.identity.signature
 
 signature-few : (f : Facts) (n : Negotiated) (r : List ℕ) (m : Message) → (exchange_for f n r m).signature ≤ signature_most
 signature-few f n r message.Version = omega arith

@@ -1,5 +1,6 @@
 -- The answers' lengths: those of their layouts, as valid contents have digests of H bytes and a summary with any measurement. Each answer,
 -- its signature included, fits a message. Assumes nothing.
+use Rattle.std.specs.Prelude.{Option, Some, None}
 use mathlib.Core.Path.{◌≡◌, refl, sym, ◌∙◌}
 use mathlib.Core.Bool.{true, false}
 use mathlib.Core.List.{List, [], ◌∷◌, ◌++◌}
@@ -34,8 +35,7 @@ use Rattle.rules.specs.Messages.{exchange_for, message_bytes}
 use Rattle.rules.specs.declared.Negotiated.{Negotiated}
 use Rattle.rules.specs.declared.Operation.{Operation}
 use Rattle.rules.specs.declared.Operation.TheVariants as operation
-use Rattle.rules.specs.declared.Signer.{Signer}
-use Rattle.rules.specs.declared.Signer.TheVariants as signer
+use Rattle.image.specs.declared.SlotNumber.{SlotNumber}
 use Rattle.rules.specs.declared.Message.{Message}
 use Rattle.rules.specs.declared.Message.TheVariants as message
 use Rattle.rules.proofs.Told.{Fields, layout-few}
@@ -153,7 +153,7 @@ record_length c v (operation.One i) p =
     block-length (digest_size c.identity.hash) (measurement_of c i.0) (present-length c v i.0 (ltb-true _ _ p))
     ∙ sym (one-mul (block_size (digest_size c.identity.hash)))
 
-measurements-length : (c : Contents) → Valid c → (nonce : List ℕ) (n : Negotiated) (o : Operation) (g : Signer) → length nonce ≡ nonce_length
+measurements-length : (c : Contents) → Valid c → (nonce : List ℕ) (n : Negotiated) (o : Operation) (g : Option SlotNumber) → length nonce ≡ nonce_length
     → operation_fits (facts_of c) o ≡ true → length (measurements_bytes c nonce n o g) ≡ measurements_size (facts_of c) o
 unfolding measurements_bytes
 measurements-length c v nonce n o g e p = simp (length-append, record_length c v o p, e) (omega arith)
@@ -169,14 +169,14 @@ measurements-most c v o =
     let b : block_size (digest_size c.identity.hash) ≤ block_size digest_most = omega (arith, digest-most c.identity.hash) in
     omega (arith, mul-le-mul (few_blocks (length c.measurements) o v.few_measurements) b)
 
-signed_most : (c : Contents) → Valid c → (o : Operation) (g : Signer) → whole_length (measurements_exchange (facts_of c) o g) ≤ message_limit
-signed_most c v o signer.Nobody = omega (arith, measurements-most c v o)
-signed_most c v o (signer.Slot k) = omega (arith, measurements-most c v o, signature-most c.identity.signature)
+signed_most : (c : Contents) → Valid c → (o : Operation) (g : Option SlotNumber) → whole_length (measurements_exchange (facts_of c) o g) ≤ message_limit
+signed_most c v o None = omega (arith, measurements-most c v o)
+signed_most c v o (Some k) = omega (arith, measurements-most c v o, signature-most c.identity.signature)
 
 -- by who signs, as the exchange is
-measured-length : (c : Contents) (o : Operation) (g : Signer) → (measurements_exchange (facts_of c) o g).length ≡ measurements_size (facts_of c) o
-measured-length c o signer.Nobody = refl
-measured-length c o (signer.Slot k) = refl
+measured-length : (c : Contents) (o : Operation) (g : Option SlotNumber) → (measurements_exchange (facts_of c) o g).length ≡ measurements_size (facts_of c) o
+measured-length c o None = refl
+measured-length c o (Some k) = refl
 
 module _ (c : Contents) (v : Valid c) (r : List ℕ) (n : Negotiated) where
   -- every answer, its signature left off, has the length that its exchange says

@@ -2,6 +2,7 @@
 -- edition's byte passes the nine steps alike, and all bytes of the answer or ERROR but the first are the same, CAPABILITIES aside. Host
 -- numbers, finishing and what is signed are not in it. By a walk over the steps: none but step 2's code, step 5's own byte and
 -- GET_CAPABILITIES, which step 6 refuses from phase 2 on, looks at the edition. Assumes nothing.
+use Rattle.std.specs.Prelude.{Option, Some, None}
 use mathlib.Core.Path.{◌≡◌, refl, sym, ◌∙◌}
 use mathlib.Core.Bool.{Bool, true, false}
 use mathlib.Core.List.{List, ◌∷◌}
@@ -29,12 +30,10 @@ use Rattle.rules.specs.declared.Negotiated.{Negotiated}
 use Rattle.rules.specs.declared.State.{State}
 use Rattle.rules.specs.declared.Kind.{Kind}
 use Rattle.rules.specs.declared.Kind.TheVariants as kind
-use Rattle.rules.specs.declared.Asked.{Asked}
-use Rattle.rules.specs.declared.Asked.TheVariants.{Served, Unserved}
 use Rattle.rules.specs.declared.Message.{Message}
 use Rattle.rules.specs.declared.Message.TheVariants as message
 use Rattle.rules.specs.declared.Exchange.{Exchange}
-use Rattle.rules.specs.declared.Decision.{Decision}
+use Rattle.rules.specs.Decision.{Decision}
 use Rattle.rules.proofs.Tests.{false_true}
 
 -- under 1.1
@@ -145,11 +144,11 @@ module _ (f : Facts) (s : State) (rest : List ℕ) (chosen : capabilities_phase 
   last kind.Measurements v p = measurements
 
   -- steps 4–6, by what the code asks for
-  asked : (x : Asked) → Eleven (asked_steps f s11 r11 (λ (k : Kind). last_steps f s11 r11 k) x) (asked_steps f s12 r12 (λ (k : Kind). last_steps f s12 r12 k) x)
+  asked : (x : Option Kind) → Eleven (asked_steps f s11 r11 (λ (k : Kind). last_steps f s11 r11 k) x) (asked_steps f s12 r12 (λ (k : Kind). last_steps f s12 r12 k) x)
   unfolding asked_steps kind_steps
-  asked (Served k) =
+  asked (Some k) =
       rw (fits k, phases k) (both _ _ _ _ _ (λ _. both _ _ _ _ _ (λ v. both _ _ _ _ _ (λ p. last k v p) (λ _. refl)) (λ _. refl)) (λ _. refl))
-  asked Unserved = refl
+  asked None = refl
 
   -- the nine steps
   pub as_for_12 : length r12 ≤ message_limit → request_decision f s11 r11 ≡ decision_under version11 (request_decision f s12 r12)

@@ -27,7 +27,7 @@ use Rattle.rules.specs.Effects.{effect_of, effect_by}
 use Rattle.rules.specs.Signing.{prefix_of, to_hash, finish_of, finish_by}
 use Rattle.rules.specs.Plain.{Plain, fresh_plain, Feed, request, finishing, Said, plain_said, plain_next}
 use Rattle.rules.specs.declared.Lengths.{Lengths}
-use Rattle.rules.specs.declared.Reply.TheVariants as reply
+use Rattle.rules.specs.Reply as reply
 
 -- n numbers, each one more than the last
 abbrev pub rising : ℕ → ℕ → List ℕ

@@ -10,7 +10,7 @@ use Rattle.rules.specs.Plain.{Plain, Feed, request, finishing, Said}
 use Rattle.rules.specs.declared.Negotiated.{Negotiated}
 use Rattle.rules.specs.declared.Used.{Used}
 use Rattle.rules.specs.declared.State.{State}
-use Rattle.rules.specs.declared.Reply.TheVariants as reply
+use Rattle.rules.specs.Reply as reply
 use Rattle.rules.proofs.Flows.{rising, nonce, lent, joined, saying, refused, get_version, version, get_digests, challenge, count_measurements}
 use Rattle.rules.proofs.Flows.{challenge_prefix, measurements_prefix}
 

@@ -1,5 +1,6 @@
 -- The one walk over the tests of a request. Where no number came, the host's tests passed; where a request was accepted, steps 1–6 passed too,
 -- and the decision is that of its kind's own steps. Assumes nothing.
+use Rattle.std.specs.Prelude.{Option, Some, None}
 use mathlib.Core.Path.{◌≡◌, refl, sym, subst}
 use mathlib.Core.Bool.{true, false}
 use mathlib.Core.List.{List}
@@ -16,10 +17,8 @@ use Rattle.rules.specs.Decisions.{last_steps, request_decision, decision_of}
 use Rattle.rules.specs.declared.State.{State}
 use Rattle.rules.specs.declared.Lengths.{Lengths}
 use Rattle.rules.specs.declared.Kind.{Kind}
-use Rattle.rules.specs.declared.Asked.{Asked}
-use Rattle.rules.specs.declared.Asked.TheVariants.{Served, Unserved}
-use Rattle.rules.specs.declared.Decision.{Decision}
-use Rattle.rules.specs.declared.Decision.TheVariants as decision
+use Rattle.rules.specs.Decision.{Decision}
+use Rattle.rules.specs.Decision as decision
 
 abbrev pub Unnumbered : Decision → Type 0
 Unnumbered (decision.Number k) = ⊥
@@ -49,7 +48,7 @@ pub record Passed (f : Facts) (s : State) (r : List ℕ) (d : Decision) : Type 0
   pub most : length r ≤ message_limit
   pub free : must_wait s.awaited (code_byte r) ≡ false
   pub kind : Kind
-  pub asked : kind_of (code_byte r) ≡ Served kind
+  pub asked : kind_of (code_byte r) ≡ Some kind
   pub served : serves f kind ≡ true
   pub version : version_fits s.negotiated (version_byte r) kind ≡ true
   pub phase : in_phase s.negotiated kind ≡ true
@@ -74,14 +73,14 @@ module _ (f : Facts) (s : State) (r : List ℕ) (d : Decision) where
 
     -- steps 4–6, by what the code asks for
     by_code : header_length ≤ length r → length r ≤ message_limit → must_wait s.awaited (code_byte r) ≡ false
-        → (x : Asked) → kind_of (code_byte r) ≡ x → asked_steps f s r (λ (k : Kind). last_steps f s r k) x ≡ d → Passed f s r d
+        → (x : Option Kind) → kind_of (code_byte r) ≡ x → asked_steps f s r (λ (k : Kind). last_steps f s r k) x ≡ d → Passed f s r d
     unfolding asked_steps kind_steps
-    by_code l m w (Served k) x g =
+    by_code l m w (Some k) x g =
         let a = not-second _ _ _ _ g (no _ _ _ _) in
         let b = not-second _ _ _ _ a.1 (no _ _ _ _) in
         let c = not-second _ _ _ _ b.1 (no _ _ _ _) in
         record { least = l; most = m; free = w; kind = k; asked = x; served = a.0; version = b.0; phase = c.0; decided = c.1 }
-    by_code l m w Unserved x g = absurd (no _ _ _ _ g)
+    by_code l m w None x g = absurd (no _ _ _ _ g)
 
     pub passed : request_decision f s r ≡ d → Passed f s r d
     unfolding request_decision first_steps

@@ -23,8 +23,8 @@ use Rattle.rules.specs.declared.Lengths.{Lengths}
 use Rattle.rules.specs.declared.Negotiated.{Negotiated}
 use Rattle.rules.specs.declared.Message.{Message}
 use Rattle.rules.specs.declared.Exchange.{Exchange}
-use Rattle.rules.specs.declared.Decision.{Decision}
-use Rattle.rules.specs.declared.Decision.TheVariants as decision
+use Rattle.rules.specs.Decision.{Decision}
+use Rattle.rules.specs.Decision as decision
 use Rattle.rules.proofs.Tests.{Counted, own, counted}
 use Rattle.rules.proofs.Passed.{called}
 use Rattle.rules.proofs.Told.{Accepted, accepted}

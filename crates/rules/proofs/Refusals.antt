@@ -1,6 +1,7 @@
 -- Which refusals empty M, told by what a requester has in hand: its request and the ERROR's code. Of the nine steps only 1, 7 and, under
 -- 1.1, 2 share a code; only step 1 refuses a request that is shorter than a header, and only step 2 one that is longer than a message; so
 -- length and code tell the step. By a walk over the steps in their order. Assumes nothing.
+use Rattle.std.specs.Prelude.{Some}
 use mathlib.Core.Path.{◌≡◌, refl}
 use mathlib.Core.Bool.{Bool, true, false, and-false}
 use mathlib.Core.List.{List, [], ◌∷◌, map}
@@ -24,9 +25,8 @@ use Rattle.rules.specs.Refusals.{late_code, seen_emptied, LeavesAsSeen}
 use Rattle.rules.specs.declared.State.{State}
 use Rattle.rules.specs.declared.Lengths.{Lengths}
 use Rattle.rules.specs.declared.Kind.TheVariants as kind
-use Rattle.rules.specs.declared.Asked.TheVariants.{Served}
-use Rattle.rules.specs.declared.Decision.{Decision}
-use Rattle.rules.specs.declared.Decision.TheVariants as decision
+use Rattle.rules.specs.Decision.{Decision}
+use Rattle.rules.specs.Decision as decision
 
 -- of GET_MEASUREMENTS that get 0x01 those of 4 to 4,608 bytes are seen to empty M: shorter ones step 1 refuses, longer ones, under 1.1, step 2
 edges : map (λ (n : ℕ). seen_emptied (0x11 ∷ 0xE0 ∷ replicate n 0) 0x01) (1 ∷ 2 ∷ 4606 ∷ 4607 ∷ []) ≡ false ∷ true ∷ true ∷ false ∷ []
@@ -76,7 +76,7 @@ module _ (f : Facts) (c : Contents) (s : State) (r nonce : List ℕ) where
           pick_case P _ _ _ (λ _. late _ _ _ _ refl refl) (λ _. tt)))
           (λ _. late _ _ _ _ refl refl)) (λ _. late _ _ _ _ refl refl))
 
-    is_measurements : kind_of (code_byte r) ≡ Served kind.Measurements
+    is_measurements : kind_of (code_byte r) ≡ Some kind.Measurements
     unfolding kind_of pick
     is_measurements = rw e
 

@@ -37,8 +37,7 @@ use Rattle.rules.specs.declared.Part.TheVariants.{A, B, M}
 use Rattle.rules.specs.declared.Used.{Used}
 use Rattle.rules.specs.declared.State.{State}
 use Rattle.rules.specs.declared.Lengths.{Lengths}
-use Rattle.rules.specs.declared.Decision.{Decision}
-use Rattle.rules.specs.declared.Decision.TheVariants.{Refused}
+use Rattle.rules.specs.Decision.{Decision, Refused}
 use Rattle.rules.proofs.Flows.{rising, nonce, bench, said_from, after, saying, refused, too_large, get_version, version}
 use Rattle.rules.proofs.Flows.{get_digests, challenge, count_measurements, challenge_prefix, measurements_prefix}
 use Rattle.rules.proofs.OtherImages.{bytes, second, third, asks, finishes, agree, uses, waits, idle, box_in, Claim, leads}

@@ -1,5 +1,6 @@
 -- What an accepted request tells, alike for every message: its exchange is the message's own, the request is long enough and its part has
 -- room; and what its fields are. It holds of every branch of its kind's tests, so of what they choose. Assumes nothing.
+use Rattle.std.specs.Prelude.{Option, Some, None}
 use mathlib.Core.Path.{◌≡◌, refl, ap, sym, subst}
 use mathlib.Core.Bool.{Bool, true, false}
 use mathlib.Core.List.{List}
@@ -33,15 +34,14 @@ use Rattle.rules.specs.declared.Lengths.{Lengths}
 use Rattle.rules.specs.declared.Kind.{Kind}
 use Rattle.rules.specs.declared.Kind.TheVariants as kind
 use Rattle.rules.specs.declared.Operation.{Operation}
-use Rattle.rules.specs.declared.Signer.{Signer}
-use Rattle.rules.specs.declared.Signer.TheVariants as signer
+use Rattle.image.specs.declared.SlotNumber.{SlotNumber}
 use Rattle.rules.specs.declared.Message.{Message}
 use Rattle.rules.specs.declared.Message.TheVariants as message
 use Rattle.rules.specs.declared.Exchange.{Exchange}
-use Rattle.rules.specs.declared.Decision.{Decision}
-use Rattle.rules.specs.declared.Decision.TheVariants as decision
-use Rattle.rules.specs.declared.Finish.{Finish}
-use Rattle.rules.specs.declared.Finish.TheVariants as finish
+use Rattle.rules.specs.Decision.{Decision}
+use Rattle.rules.specs.Decision as decision
+use Rattle.rules.specs.Finish.{Finish}
+use Rattle.rules.specs.Finish as finish
 use Rattle.rules.proofs.Tests.{own, used_in_1, used_in_2, peer_in_3, measured, false_true, not-zero, SignatureAwaited, awaited-told}
 use Rattle.rules.proofs.Passed.{Called, Passed, called, passed}
 
@@ -56,7 +56,7 @@ pub record ChallengeFields (f : Facts) (slot summary : ℕ) : Type 0 where
   pub filled : 0 < f.chain_length slot
   pub measured : eqb summary 0 ≡ false → 0 < f.measurements
 
-pub record MeasurementsFields (f : Facts) (o : Operation) (g : Signer) : Type 0 where
+pub record MeasurementsFields (f : Facts) (o : Operation) (g : Option SlotNumber) : Type 0 where
   pub fits : operation_fits f o ≡ true
   pub filled : signer_fits f g ≡ true
 
@@ -248,14 +248,14 @@ module _ (f : Facts) (s : State) (r : List ℕ) (z : in_bounds f s ≡ true) whe
       (λ _. tt)))
 
   -- by what is signed, as the exchange is
-  measured-by : (g : Signer) (o : Operation) → g ≡ signer_of r → o ≡ operation_of (param2 r) → layout_of g ≤ length r → signer_fits f g ≡ true
+  measured-by : (g : Option SlotNumber) (o : Operation) → g ≡ signer_of r → o ≡ operation_of (param2 r) → layout_of g ≤ length r → signer_fits f g ≡ true
       → operation_fits f o ≡ true → P kind.Measurements (size_steps s (message.Measurements o g) (measurements_exchange f o g))
   unfolding pick
-  measured-by signer.Nobody o e i h t u =
-      sized kind.Measurements _ (measurements_exchange f o signer.Nobody) refl
+  measured-by None o e i h t u =
+      sized kind.Measurements _ (measurements_exchange f o None) refl
       (λ q. (refl, record { exchange = refl; layout = rw (sym e); fitting = q; fields = record { fits = u; filled = t }; asked = (i, e) })) h
-  measured-by (signer.Slot k) o e i h t u =
-      sized kind.Measurements _ (measurements_exchange f o (signer.Slot k)) refl
+  measured-by (Some k) o e i h t u =
+      sized kind.Measurements _ (measurements_exchange f o (Some k)) refl
       (λ q. (refl, record { exchange = refl; layout = rw (sym e); fitting = q; fields = record { fits = u; filled = t }; asked = (i, e) })) h
 
   measurements : P kind.Measurements (measurements_decision f s r)

@@ -13,8 +13,7 @@ use Rattle.rules.specs.declared.Negotiated.{Negotiated}
 use Rattle.rules.specs.declared.Kind.TheVariants as kind
 use Rattle.rules.specs.declared.Message.TheVariants as message
 use Rattle.rules.specs.declared.Exchange.{Exchange}
-use Rattle.rules.specs.declared.Decision.{Decision}
-use Rattle.rules.specs.declared.Decision.TheVariants.{Accepted}
+use Rattle.rules.specs.Decision.{Decision, Accepted}
 
 -- bit n of a number
 abbrev pub bit_set : ℕ → ℕ → Bool

@@ -13,8 +13,9 @@ use Rattle.rules.specs.declared.Used.{Used}
 use Rattle.rules.specs.declared.State.{State}
 use Rattle.rules.specs.declared.Lengths.{Lengths}
 use Rattle.rules.specs.declared.Outcome.{Outcome}
-use Rattle.rules.specs.declared.Finish.{Finish}
-use Rattle.rules.specs.declared.Finish.TheVariants as finish
+use Rattle.rules.specs.Reply.{replied}
+use Rattle.rules.specs.Finish.{Finish}
+use Rattle.rules.specs.Finish as finish
 
 -- the buffers that a call is lent
 pub record Lent : Type 0 where
@@ -78,7 +79,7 @@ answer_after e answer = splice answer 0 (bytes_of e)
 
 -- a request: what it returns, and what the buffers hold later
 pub record Responded (e : Effect) (s : State) (before after : Lent) (o : Outcome) : Type 0 where
-  pub reply : o.reply ≡ reply_of e
+  pub reply : replied o.reply ≡ reply_of e
   pub state : o.state ≡ state_after e s
   pub transcript : after.transcript ≡ transcript_after e s before.transcript
   pub answer : after.answer ≡ answer_after e before.answer
@@ -104,6 +105,6 @@ finished_answer finish.Failed s answer signature = splice answer 0 (failed_bytes
 
 -- a finishing: "no other byte of any buffer"; it is lent the transcript to read only
 pub record Finished (d : Finish) (s : State) (before after signature : List ℕ) (o : Outcome) : Type 0 where
-  pub reply : o.reply ≡ finish_reply d s.awaited.length
+  pub reply : replied o.reply ≡ finish_reply d s.awaited.length
   pub state : o.state ≡ finished_state d s
   pub answer : after ≡ finished_answer d s before signature

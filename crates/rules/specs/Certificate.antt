@@ -14,7 +14,7 @@ use Rattle.rules.specs.declared.State.{State}
 use Rattle.rules.specs.declared.Kind.TheVariants as kind
 use Rattle.rules.specs.declared.Message.TheVariants as message
 use Rattle.rules.specs.declared.Exchange.{Exchange}
-use Rattle.rules.specs.declared.Decision.{Decision}
+use Rattle.rules.specs.Decision.{Decision}
 
 -- "slot in the low half of Param1, offset at 4, length at 6"
 abbrev pub slot_asked : List ℕ → ℕ

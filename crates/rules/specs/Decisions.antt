@@ -16,8 +16,8 @@ use Rattle.rules.specs.declared.State.{State}
 use Rattle.rules.specs.declared.Lengths.{Lengths}
 use Rattle.rules.specs.declared.Kind.{Kind}
 use Rattle.rules.specs.declared.Kind.TheVariants as kind
-use Rattle.rules.specs.declared.Decision.{Decision}
-use Rattle.rules.specs.declared.Decision.TheVariants as decision
+use Rattle.rules.specs.Decision.{Decision}
+use Rattle.rules.specs.Decision as decision
 
 -- steps 7–9, by the kind of request; steps 8 and 9 "are not applied in phases 0–2 nor to GET_VERSION"
 unfoldable pub last_steps : Facts → State → List ℕ → Kind → Decision

@@ -12,7 +12,7 @@ use Rattle.rules.specs.declared.State.{State}
 use Rattle.rules.specs.declared.Kind.TheVariants as kind
 use Rattle.rules.specs.declared.Message.TheVariants as message
 use Rattle.rules.specs.declared.Exchange.{Exchange}
-use Rattle.rules.specs.declared.Decision.{Decision}
+use Rattle.rules.specs.Decision.{Decision}
 
 abbrev pub digests_size : Facts → ℕ
 digests_size f = header_length + f.chains * hash_size f

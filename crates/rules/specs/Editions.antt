@@ -2,8 +2,8 @@
 use Rattle.std.specs.Prelude.{List, [], ◌∷◌, ℕ}
 use Rattle.rules.specs.declared.Negotiated.{Negotiated}
 use Rattle.rules.specs.declared.State.{State}
-use Rattle.rules.specs.declared.Decision.{Decision}
-use Rattle.rules.specs.declared.Decision.TheVariants as decision
+use Rattle.rules.specs.Decision.{Decision}
+use Rattle.rules.specs.Decision as decision
 
 -- what was negotiated, had this edition been chosen
 abbrev pub agreed_under : ℕ → Negotiated → Negotiated

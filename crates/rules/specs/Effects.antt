@@ -14,10 +14,10 @@ use Rattle.rules.specs.declared.State.{State}
 use Rattle.rules.specs.declared.Lengths.{Lengths}
 use Rattle.rules.specs.declared.Message.{Message}
 use Rattle.rules.specs.declared.Exchange.{Exchange}
-use Rattle.rules.specs.declared.Decision.{Decision}
-use Rattle.rules.specs.declared.Decision.TheVariants as decision
-use Rattle.rules.specs.declared.Reply.{Reply}
-use Rattle.rules.specs.declared.Reply.TheVariants as reply
+use Rattle.rules.specs.Decision.{Decision}
+use Rattle.rules.specs.Decision as decision
+use Rattle.rules.specs.Reply.{Reply}
+use Rattle.rules.specs.Reply as reply
 
 -- An accepted request's change: what is negotiated now, what is kept of the transcript's parts, what is appended where (of the request what
 -- was asked, of the answer what was told), and whose signature is awaited for which answer.

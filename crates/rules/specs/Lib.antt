@@ -1,4 +1,8 @@
 pub mod Limits
+pub mod HostError
+pub mod Decision
+pub mod Reply
+pub mod Finish
 pub mod Facts
 pub mod Parts
 pub mod Header

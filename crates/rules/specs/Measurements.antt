@@ -1,5 +1,5 @@
 -- GET_MEASUREMENTS and MEASUREMENTS.
-use Rattle.std.specs.Prelude.{Bool, true, List, [], ◌∷◌, ◌++◌, ℕ, ◌+◌, ◌*◌, ◌%◌, length, get_or, drop, ltb, eqb}
+use Rattle.std.specs.Prelude.{Bool, true, Option, Some, None, List, [], ◌∷◌, ◌++◌, ℕ, ◌+◌, ◌*◌, ◌%◌, length, get_or, drop, ltb, eqb}
 use Rattle.wire.specs.Bytes.{le_bytes}
 use Rattle.wire.specs.Pick.{pick}
 use Rattle.image.specs.Sizes.{digest_size}
@@ -14,12 +14,11 @@ use Rattle.rules.specs.declared.Negotiated.{Negotiated}
 use Rattle.rules.specs.declared.State.{State}
 use Rattle.rules.specs.declared.Operation.{Operation}
 use Rattle.rules.specs.declared.Operation.TheVariants as operation
-use Rattle.rules.specs.declared.Signer.{Signer}
-use Rattle.rules.specs.declared.Signer.TheVariants as signer
+use Rattle.image.specs.declared.SlotNumber.{SlotNumber}
 use Rattle.rules.specs.declared.Kind.TheVariants as kind
 use Rattle.rules.specs.declared.Message.TheVariants as message
 use Rattle.rules.specs.declared.Exchange.{Exchange}
-use Rattle.rules.specs.declared.Decision.{Decision}
+use Rattle.rules.specs.Decision.{Decision}
 
 -- "4 bytes, or 37 if bit 0 of Param1 asks a signature (nonce, then slot in the low half of the last byte ..). Other Param1 bits ignored."
 abbrev pub asks_signature : List ℕ → Bool
@@ -28,17 +27,17 @@ asks_signature r = eqb (param1 r % 2) 1
 abbrev pub signer_slot : List ℕ → ℕ
 signer_slot r = get_or r 36 0 % 16
 
-abbrev pub signer_of : List ℕ → Signer
-signer_of r = pick (asks_signature r) (signer.Slot (record { 0 = signer_slot r })) signer.Nobody
+abbrev pub signer_of : List ℕ → Option SlotNumber
+signer_of r = pick (asks_signature r) (Some (record { 0 = signer_slot r })) None
 
-abbrev pub layout_of : Signer → ℕ
-layout_of signer.Nobody = header_length
-layout_of (signer.Slot k) = signed_layout
+abbrev pub layout_of : Option SlotNumber → ℕ
+layout_of None = header_length
+layout_of (Some k) = signed_layout
 
 -- ".. slot .. which must be filled"
-unfoldable pub signer_fits : Facts → Signer → Bool
-signer_fits f signer.Nobody = true
-signer_fits f (signer.Slot k) = ltb 0 (f.chain_length k.0)
+unfoldable pub signer_fits : Facts → Option SlotNumber → Bool
+signer_fits f None = true
+signer_fits f (Some k) = ltb 0 (f.chain_length k.0)
 
 -- "Param2 0, 0xFF or a present index"
 abbrev pub operation_of : ℕ → Operation
@@ -63,14 +62,14 @@ block_size h = 7 + h
 abbrev pub measurements_size : Facts → Operation → ℕ
 measurements_size f o = header_length + 4 + block_count f.measurements o * block_size (hash_size f) + nonce_length + 2
 
-abbrev pub measurements_exchange : Facts → Operation → Signer → Exchange
-measurements_exchange f o signer.Nobody = complete kind.Measurements (layout_of signer.Nobody) (measurements_size f o)
-measurements_exchange f o (signer.Slot k) = signable f kind.Measurements (layout_of (signer.Slot k)) (measurements_size f o) awaits_measurements
+abbrev pub measurements_exchange : Facts → Operation → Option SlotNumber → Exchange
+measurements_exchange f o None = complete kind.Measurements (layout_of None) (measurements_size f o)
+measurements_exchange f o (Some k) = signable f kind.Measurements (layout_of (Some k)) (measurements_size f o) awaits_measurements
 
-unfoldable pub operation_step : Facts → State → Signer → Operation → Decision
+unfoldable pub operation_step : Facts → State → Option SlotNumber → Operation → Decision
 operation_step f s g o = pick (operation_fits f o) (size_steps s (message.Measurements o g) (measurements_exchange f o g)) invalid
 
-unfoldable pub measurements_by : Facts → State → List ℕ → Signer → Operation → Decision
+unfoldable pub measurements_by : Facts → State → List ℕ → Option SlotNumber → Operation → Decision
 measurements_by f s r g o =
     pick (ltb (length r) (layout_of g)) invalid
     (pick (signer_fits f g) (operation_step f s g o) invalid)
@@ -98,13 +97,13 @@ count_shown c operation.Count = length c.measurements
 count_shown c operation.All = 0
 count_shown c (operation.One i) = 0
 
-abbrev pub slot_shown : Signer → ℕ
-slot_shown signer.Nobody = 0
-slot_shown (signer.Slot k) = k.0
+abbrev pub slot_shown : Option SlotNumber → ℕ
+slot_shown None = 0
+slot_shown (Some k) = k.0
 
 -- "MEASUREMENTS 0x60: .. number of blocks at 4 .., record length (3 bytes) at 5, record, our nonce, opaque length 0, signature if asked";
 -- without the signature
-unfoldable pub measurements_bytes : Contents → List ℕ → Negotiated → Operation → Signer → List ℕ
+unfoldable pub measurements_bytes : Contents → List ℕ → Negotiated → Operation → Option SlotNumber → List ℕ
 measurements_bytes c nonce n o g =
     header n measurements_code (count_shown c o) (slot_shown g)
     ++ (block_count (length c.measurements) o

@@ -9,9 +9,9 @@ use Rattle.rules.specs.Signing.{prefix_of, to_hash, finish_by, finish_reply, fin
 use Rattle.rules.specs.declared.Negotiated.{Negotiated}
 use Rattle.rules.specs.declared.State.{State}
 use Rattle.rules.specs.declared.Lengths.{Lengths}
-use Rattle.rules.specs.declared.Reply.{Reply}
-use Rattle.rules.specs.declared.Finish.{Finish}
-use Rattle.rules.specs.declared.Finish.TheVariants as finish
+use Rattle.rules.specs.Reply.{Reply}
+use Rattle.rules.specs.Finish.{Finish}
+use Rattle.rules.specs.Finish as finish
 
 -- whose signature is awaited, and for which answer
 pub record Plain : Type 0 where

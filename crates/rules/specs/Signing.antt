@@ -12,10 +12,10 @@ use Rattle.rules.specs.Header.{by_edition, version_of, error_bytes}
 use Rattle.rules.specs.declared.Negotiated.{Negotiated}
 use Rattle.rules.specs.declared.State.{State}
 use Rattle.rules.specs.declared.Lengths.{Lengths}
-use Rattle.rules.specs.declared.Finish.{Finish}
-use Rattle.rules.specs.declared.Finish.TheVariants as finish
-use Rattle.rules.specs.declared.Reply.{Reply}
-use Rattle.rules.specs.declared.Reply.TheVariants as reply
+use Rattle.rules.specs.Finish.{Finish}
+use Rattle.rules.specs.Finish as finish
+use Rattle.rules.specs.Reply.{Reply}
+use Rattle.rules.specs.Reply as reply
 
 -- dmtf-spdm-v1.2.*
 abbrev pub spdm_text : List ℕ

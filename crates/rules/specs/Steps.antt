@@ -1,5 +1,5 @@
 -- "A request, checked in this order": steps 1–6, and steps 8 and 9 over an exchange. Step 7 stands with each message.
-use Rattle.std.specs.Prelude.{Bool, true, false, List, ℕ, ◌+◌, length, ltb, eqb}
+use Rattle.std.specs.Prelude.{Bool, true, false, Option, Some, None, List, ℕ, ◌+◌, length, ltb, eqb}
 use Rattle.wire.specs.Pick.{pick}
 use Rattle.rules.specs.Limits.{message_limit, header_length, version10, version_phase, capabilities_phase, algorithms_phase}
 use Rattle.rules.specs.Limits.{get_version, get_capabilities, negotiate_algorithms, get_digests, get_certificate, challenge}
@@ -14,24 +14,21 @@ use Rattle.rules.specs.declared.Awaited.{Awaited}
 use Rattle.rules.specs.declared.State.{State}
 use Rattle.rules.specs.declared.Kind.{Kind}
 use Rattle.rules.specs.declared.Kind.TheVariants as kind
-use Rattle.rules.specs.declared.Asked.{Asked}
-use Rattle.rules.specs.declared.Asked.TheVariants.{Served, Unserved}
 use Rattle.rules.specs.declared.Message.{Message}
 use Rattle.rules.specs.declared.Exchange.{Exchange}
-use Rattle.rules.specs.declared.Decision.{Decision}
-use Rattle.rules.specs.declared.Decision.TheVariants.{Refused, Accepted}
+use Rattle.rules.specs.Decision.{Decision, Refused, Accepted}
 
 -- the served request codes
-unfoldable pub kind_of : ℕ → Asked
+unfoldable pub kind_of : ℕ → Option Kind
 kind_of code =
-    pick (eqb code get_version) (Served kind.Version)
-    (pick (eqb code get_capabilities) (Served kind.Capabilities)
-    (pick (eqb code negotiate_algorithms) (Served kind.Algorithms)
-    (pick (eqb code get_digests) (Served kind.Digests)
-    (pick (eqb code get_certificate) (Served kind.Certificate)
-    (pick (eqb code challenge) (Served kind.Challenge)
-    (pick (eqb code get_measurements) (Served kind.Measurements)
-    Unserved))))))
+    pick (eqb code get_version) (Some kind.Version)
+    (pick (eqb code get_capabilities) (Some kind.Capabilities)
+    (pick (eqb code negotiate_algorithms) (Some kind.Algorithms)
+    (pick (eqb code get_digests) (Some kind.Digests)
+    (pick (eqb code get_certificate) (Some kind.Certificate)
+    (pick (eqb code challenge) (Some kind.Challenge)
+    (pick (eqb code get_measurements) (Some kind.Measurements)
+    None))))))
 
 -- step 2: "over 4,608 bytes", 0x0E; paper 02, 4: "under 1.1 step 2 answers 0x01"
 abbrev pub long_code : Negotiated → ℕ
@@ -95,9 +92,9 @@ kind_steps f s r k next =
     (refusal code_step unsupported_request (code_byte r))
 
 -- steps 4–6, by what the code asks for
-unfoldable pub asked_steps : Facts → State → List ℕ → (Kind → Decision) → Asked → Decision
-asked_steps f s r next (Served k) = kind_steps f s r k (next k)
-asked_steps f s r next Unserved = refusal code_step unsupported_request (code_byte r)
+unfoldable pub asked_steps : Facts → State → List ℕ → (Kind → Decision) → Option Kind → Decision
+asked_steps f s r next (Some k) = kind_steps f s r k (next k)
+asked_steps f s r next None = refusal code_step unsupported_request (code_byte r)
 
 -- steps 1–6
 unfoldable pub first_steps : Facts → State → List ℕ → (Kind → Decision) → Decision

@@ -10,8 +10,7 @@ use Rattle.rules.specs.declared.Negotiated.{Negotiated}
 use Rattle.rules.specs.declared.Kind.TheVariants as kind
 use Rattle.rules.specs.declared.Message.TheVariants as message
 use Rattle.rules.specs.declared.Exchange.{Exchange}
-use Rattle.rules.specs.declared.Decision.{Decision}
-use Rattle.rules.specs.declared.Decision.TheVariants.{Accepted}
+use Rattle.rules.specs.Decision.{Decision, Accepted}
 
 -- GET_VERSION: "leading to 1 with all else cleared"
 abbrev pub version_exchange : Exchange

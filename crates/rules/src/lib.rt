@@ -3,9 +3,18 @@
 
 pub mod limits;
 
-use image::{MeasurementIndex, SlotNumber};
+ghost use Rattle.std.specs.Prelude.{◌≡◌};
+ghost use Rattle.rules.specs.HostError.{host_number};
+ghost use Rattle.rules.specs.declared.HostError.TheVariants.{Image};
+ghost use Rattle.rules.specs.declared.Refusal.TheVariants.{Host, Request};
 
-// How far the negotiation has come, and what it agreed on.
+use image::{Fault, MeasurementIndex, SlotNumber};
+use limits::{
+    NOTHING_AWAITED, SHORT_ANSWER, SHORT_TRANSCRIPT, WRONG_NONCE, WRONG_SIGNATURE, WRONG_STATE,
+};
+
+// How far the negotiation has come, and what it agreed on. Its fields, and those of Used and Awaited, are any words: the C interface
+// hands them in as they are, and number 14 tells of those out of their range.
 #[derive(Clone, Copy)]
 pub struct Negotiated {
     // the version byte of the chosen edition, 0 before the choice
@@ -59,26 +68,12 @@ pub enum Kind {
     Measurements,
 }
 
-// What a request code asks for.
-#[derive(Clone, Copy)]
-pub enum Asked {
-    Served(Kind),
-    Unserved,
-}
-
 // Which measurements a GET_MEASUREMENTS asks for: only their count, all, or one.
 #[derive(Clone, Copy)]
 pub enum Operation {
     Count,
     All,
     One(MeasurementIndex),
-}
-
-// Whether a GET_MEASUREMENTS asks a signature, and by which slot.
-#[derive(Clone, Copy)]
-pub enum Signer {
-    Nobody,
-    Slot(SlotNumber),
 }
 
 // An answer, with the numbers that its bytes need beside the image, the nonce and what is negotiated.
@@ -100,7 +95,8 @@ pub enum Message {
     },
     Measurements {
         operation: Operation,
-        signer: Signer,
+        // the slot that signs, where a signature is asked
+        signer: Option<SlotNumber>,
     },
 }
 
@@ -120,44 +116,93 @@ pub struct Exchange {
     pub layout: usize,
     pub length: usize,
     pub signature: usize,
+    // a word, as Awaited's, which it becomes
     pub whose: u32,
 }
 
-// What a request comes to before any byte is written: a number for the host, an ERROR of the step that refuses, or an accepted request
-// with all that follows from it. The size is the answer's, which step 8 tells.
-#[derive(Clone, Copy)]
-pub enum Decision {
-    Number(u32),
-    Refused {
-        step: u8,
-        code: u8,
-        extra: u8,
-        size: usize,
-    },
-    Accepted {
-        message: Message,
-        negotiated: Negotiated,
-        exchange: Exchange,
-    },
+// What the host is told in place of an answer.
+#[derive(Clone, Copy, PartialEq, Eq)]
+pub enum HostError {
+    Image(Fault),
+    ShortAnswer,
+    ShortTranscript,
+    WrongNonce,
+    WrongState,
+    // the last two: finishing only
+    NothingAwaited,
+    WrongSignature,
 }
 
-// What a finishing comes to.
-#[derive(Clone, Copy)]
-pub enum Finish {
-    Number(u32),
-    Signed,
-    Failed,
+impl HostError {
+    // The number that the host sees.
+    pub fn number(self) -> u32
+        ensures { result ≡ host_number self }
+    {
+        match self {
+            HostError::Image(fault) => u32::from(fault.number()),
+            HostError::ShortAnswer => SHORT_ANSWER,
+            HostError::ShortTranscript => SHORT_TRANSCRIPT,
+            HostError::WrongNonce => WRONG_NONCE,
+            HostError::WrongState => WRONG_STATE,
+            HostError::NothingAwaited => NOTHING_AWAITED,
+            HostError::WrongSignature => WRONG_SIGNATURE,
+        }
+    }
 }
 
-// A number for the host, or the length of the answer in the lent buffer.
-#[derive(Clone, Copy)]
-pub enum Reply {
-    Number(u32),
-    Answer(usize),
+impl From<Fault> for HostError {
+    ghost from_gives = { λ f e. e ≡ Image f };
+
+    fn from(fault: Fault) -> HostError {
+        HostError::Image(fault)
+    }
 }
 
+// An accepted request, with all that follows from it.
+#[derive(Clone, Copy)]
+pub struct Accepted {
+    pub message: Message,
+    pub negotiated: Negotiated,
+    pub exchange: Exchange,
+}
+
+// An ERROR of the step that refuses. Step and code are numbers: steps are compared, and a code is the byte that is written. The size is
+// the answer's, which step 8 tells.
+#[derive(Clone, Copy)]
+pub struct Refused {
+    pub step: u8,
+    pub code: u8,
+    pub extra: u8,
+    pub size: usize,
+}
+
+// Why no request is accepted: a number for the host, or an ERROR for the peer. What a request comes to before any byte is written is a
+// Result of Accepted and this.
+#[derive(Clone, Copy)]
+pub enum Refusal {
+    Host(HostError),
+    Request(Refused),
+}
+
+impl From<HostError> for Refusal {
+    ghost from_gives = { λ e r. r ≡ Host e };
+
+    fn from(error: HostError) -> Refusal {
+        Refusal::Host(error)
+    }
+}
+
+impl From<Refused> for Refusal {
+    ghost from_gives = { λ e r. r ≡ Request e };
+
+    fn from(refused: Refused) -> Refusal {
+        Refusal::Request(refused)
+    }
+}
+
+// The length of the answer in the lent buffer, or what the host is told in its place; and the state then.
 #[derive(Clone, Copy)]
 pub struct Outcome {
-    pub reply: Reply,
+    pub reply: Result<usize, HostError>,
     pub state: State,
 }

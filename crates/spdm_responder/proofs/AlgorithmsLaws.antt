@@ -13,8 +13,8 @@ use Rattle.image.specs.Reading.{Result, number, found, reading}
 use Rattle.image.specs.Index.{answer_of}
 use Rattle.image.specs.declared.Image.{Image}
 use Rattle.image.proofs.Found.{mask_is}
-use Rattle.rules.specs.declared.Reply.{Reply}
-use Rattle.rules.specs.declared.Reply.TheVariants as reply
+use Rattle.rules.specs.Reply.{Reply}
+use Rattle.rules.specs.Reply as reply
 use Rattle.spdm_responder.specs.Words.{result_of, Fits}
 use Rattle.spdm_responder.specs.ImageAlgorithms.{algorithms_words, room_reply, algorithms_reply, verdict_reply}
 use Rattle.spdm_responder.specs.ImageAlgorithms.{algorithms_in, algorithms_told, AlgorithmsTold}

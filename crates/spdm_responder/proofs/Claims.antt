@@ -15,7 +15,7 @@ use Rattle.rules.specs.Header.{version_of}
 use Rattle.rules.specs.Signing.{prefix_of}
 use Rattle.rules.specs.State.{holds_only, phase_fits, selection_fits, awaited_fits, edition_fits, own_bounds}
 use Rattle.rules.specs.declared.State.{State}
-use Rattle.rules.specs.declared.Reply.TheVariants as reply
+use Rattle.rules.specs.Reply as reply
 use Rattle.spdm_responder.specs.Words.{state_in, words_after, no_state, result_of, read_reply, chip_ok}
 use Rattle.spdm_responder.specs.ToSign.{show_reply, parts_of, shown_prefix, shown_parts}
 use Rattle.spdm_responder.specs.ImageAlgorithms.{room_reply, algorithms_reply, algorithms_told}

@@ -1,4 +1,5 @@
 -- The numbers that a request and an image come to are those of the table: no branch of the rules has another. Assumes nothing.
+use Rattle.std.specs.Prelude.{Option, Some, None}
 use mathlib.Core.Path.{◌≡◌}
 use mathlib.Core.Bool.{Bool, true}
 use mathlib.Core.List.{List}
@@ -25,13 +26,11 @@ use Rattle.rules.specs.declared.State.{State}
 use Rattle.rules.specs.declared.Kind.{Kind}
 use Rattle.rules.specs.declared.Kind.TheVariants as kind
 use Rattle.rules.specs.declared.Lengths.{Lengths}
-use Rattle.rules.specs.declared.Asked.{Asked}
-use Rattle.rules.specs.declared.Asked.TheVariants.{Served, Unserved}
 use Rattle.rules.specs.declared.Negotiated.{Negotiated}
 use Rattle.rules.specs.declared.Message.{Message}
 use Rattle.rules.specs.declared.Exchange.{Exchange}
-use Rattle.rules.specs.declared.Decision.{Decision}
-use Rattle.rules.specs.declared.Decision.TheVariants as decision
+use Rattle.rules.specs.Decision.{Decision}
+use Rattle.rules.specs.Decision as decision
 
 -- a number of the table, or no number
 pub data Few : Decision → Type 0 where
@@ -54,10 +53,10 @@ few-last f s r kind.Certificate = search fews depth 16
 few-last f s r kind.Challenge = search fews depth 16
 few-last f s r kind.Measurements = search fews depth 16
 
-few-asked : (f : Facts) (s : State) (r : List ℕ) (x : Asked) → Few (asked_steps f s r (λ (k : Kind). last_steps f s r k) x)
+few-asked : (f : Facts) (s : State) (r : List ℕ) (x : Option Kind) → Few (asked_steps f s r (λ (k : Kind). last_steps f s r k) x)
 unfolding asked_steps kind_steps
-few-asked f s r (Served k) = search (fews, few-last) depth 16
-few-asked f s r Unserved = search fews depth 16
+few-asked f s r (Some k) = search (fews, few-last) depth 16
+few-asked f s r None = search fews depth 16
 
 few-request : (f : Facts) (s : State) (r : List ℕ) → Few (request_decision f s r)
 unfolding request_decision first_steps

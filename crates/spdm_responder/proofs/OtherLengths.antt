@@ -18,8 +18,8 @@ use Rattle.rules.specs.Effects.{host, effect_of, effect_by}
 use Rattle.rules.specs.Signing.{finish_of, finish_by}
 use Rattle.rules.specs.declared.State.{State}
 use Rattle.rules.specs.declared.Lengths.{Lengths}
-use Rattle.rules.specs.declared.Decision.TheVariants as decision
-use Rattle.rules.specs.declared.Finish.TheVariants as finish
+use Rattle.rules.specs.Decision as decision
+use Rattle.rules.specs.Finish as finish
 use Rattle.spdm_responder.specs.Words.{state_words, no_state, state_in, words_after}
 
 -- the number of a request, and of a finishing, on such a state

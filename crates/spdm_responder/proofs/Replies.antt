@@ -16,11 +16,11 @@ use Rattle.rules.specs.Effects.{Effect, host, refuse, accept, effect_of, effect_
 use Rattle.rules.specs.Signing.{prefix_of, finish_of, finish_by, finish_reply}
 use Rattle.rules.specs.declared.State.{State}
 use Rattle.rules.specs.declared.Lengths.{Lengths}
-use Rattle.rules.specs.declared.Decision.{Decision}
-use Rattle.rules.specs.declared.Finish.{Finish}
-use Rattle.rules.specs.declared.Finish.TheVariants as finish
-use Rattle.rules.specs.declared.Reply.{Reply}
-use Rattle.rules.specs.declared.Reply.TheVariants as reply
+use Rattle.rules.specs.Decision.{Decision}
+use Rattle.rules.specs.Finish.{Finish}
+use Rattle.rules.specs.Finish as finish
+use Rattle.rules.specs.Reply.{Reply}
+use Rattle.rules.specs.Reply as reply
 use Rattle.rules.proofs.Told.{FinishTold, finish-told}
 use Rattle.rules.proofs.Ready.{Ready, ready-image}
 use Rattle.spdm_responder.specs.Words.{result_of, Fits, read_reply}

@@ -3,7 +3,7 @@ use Rattle.std.specs.Prelude.{◌≡◌, List, ℕ}
 use Rattle.rules.specs.Effects.{Effect, reply_of}
 use Rattle.rules.specs.Signing.{finish_reply}
 use Rattle.rules.specs.Box.{Lent, state_after, transcript_after, answer_after, finished_state, finished_answer}
-use Rattle.rules.specs.declared.Finish.{Finish}
+use Rattle.rules.specs.Finish.{Finish}
 use Rattle.spdm_responder.specs.Words.{state_in, words_after, result_of}
 
 -- w and x are the words as they were lent and as they are returned

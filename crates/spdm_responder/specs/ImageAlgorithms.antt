@@ -12,8 +12,8 @@ use Rattle.image.specs.declared.Index.{Index}
 use Rattle.image.specs.declared.Verdict.{Verdict}
 use Rattle.image.specs.declared.Verdict.TheVariants as verdict
 use Rattle.rules.specs.Limits.{short_answer}
-use Rattle.rules.specs.declared.Reply.{Reply}
-use Rattle.rules.specs.declared.Reply.TheVariants as reply
+use Rattle.rules.specs.Reply.{Reply}
+use Rattle.rules.specs.Reply as reply
 use Rattle.spdm_responder.specs.Words.{result_of}
 
 -- as many words as algorithms_of has

@@ -8,8 +8,8 @@ use Rattle.rules.specs.Limits.{nothing_awaited}
 use Rattle.rules.specs.State.{own_bounds}
 use Rattle.rules.specs.Signing.{prefix_of, before_m}
 use Rattle.rules.specs.declared.State.{State}
-use Rattle.rules.specs.declared.Reply.{Reply}
-use Rattle.rules.specs.declared.Reply.TheVariants as reply
+use Rattle.rules.specs.Reply.{Reply}
+use Rattle.rules.specs.Reply as reply
 use Rattle.spdm_responder.specs.Words.{result_of}
 
 -- what a buffer for the prefix must hold, under either edition

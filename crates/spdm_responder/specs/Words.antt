@@ -6,8 +6,8 @@ use Rattle.image.specs.Reading.{Result, number, found}
 use Rattle.rules.specs.Limits.{message_limit, wrong_signature}
 use Rattle.rules.specs.State.{cleared_at, nothing_used, none_awaited}
 use Rattle.rules.specs.declared.State.{State}
-use Rattle.rules.specs.declared.Reply.{Reply}
-use Rattle.rules.specs.declared.Reply.TheVariants as reply
+use Rattle.rules.specs.Reply.{Reply}
+use Rattle.rules.specs.Reply as reply
 
 abbrev pub state_words : ℕ
 state_words = 9

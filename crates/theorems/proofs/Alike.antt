@@ -12,7 +12,7 @@ use Rattle.rules.specs.State.{fresh}
 use Rattle.rules.specs.Plain.{Plain, state_of, Said, plain_said, plain_next}
 use Rattle.rules.specs.declared.Used.{Used}
 use Rattle.rules.specs.declared.State.{State}
-use Rattle.rules.specs.declared.Reply.TheVariants as reply
+use Rattle.rules.specs.Reply as reply
 use Rattle.theorems.specs.Runs.{Call, Held, box_next, read_back, box_said, view, feed_of}
 use Rattle.theorems.proofs.Parts.{Whole}
 

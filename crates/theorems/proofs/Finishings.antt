@@ -17,8 +17,8 @@ use Rattle.rules.specs.Signing.{finish_of, finish_by, failed_bytes}
 use Rattle.rules.specs.Plain.{plain_finished, emptied, said_finish, plain_finish, plain_said, plain_next}
 use Rattle.rules.specs.Box.{lengths_of}
 use Rattle.rules.specs.declared.Lengths.{Lengths}
-use Rattle.rules.specs.declared.Finish.{Finish}
-use Rattle.rules.specs.declared.Finish.TheVariants as finish
+use Rattle.rules.specs.Finish.{Finish}
+use Rattle.rules.specs.Finish as finish
 use Rattle.rules.proofs.Told.{FinishTold, finish-told}
 use Rattle.theorems.specs.Runs.{sign, Held, lent_of, sign_finish, held_finished, box_next, said_finished, box_said, view, LendsAwaited}
 use Rattle.theorems.proofs.Parts.{parts-kept, whole-kept}

@@ -21,7 +21,7 @@ use Rattle.rules.specs.declared.State.{State}
 use Rattle.rules.specs.declared.Lengths.{Lengths}
 use Rattle.rules.specs.declared.Kind.TheVariants as kind
 use Rattle.rules.specs.declared.Message.TheVariants as message
-use Rattle.rules.specs.declared.Decision.{Decision}
+use Rattle.rules.specs.Decision.{Decision}
 use Rattle.theorems.specs.Runs.{IsAccept}
 use Rattle.theorems.proofs.Passes.{was_accepted, decides, PassedAs, passed_as}
 

@@ -1,5 +1,6 @@
 -- The tests of a request, both ways. Which tests an accepted request passed is told by rules' Passed; here it is told of the kind that the
 -- request's code names, and the converse: a request that passes them all is decided as its kind's own steps decide. Assumes nothing.
+use Rattle.std.specs.Prelude.{Option, Some, None}
 use mathlib.Core.Path.{◌≡◌, sym, ap, ◌∙◌}
 use mathlib.Core.Bool.{true, false}
 use mathlib.Core.List.{List}
@@ -19,10 +20,8 @@ use Rattle.rules.specs.declared.State.{State}
 use Rattle.rules.specs.declared.Lengths.{Lengths}
 use Rattle.rules.specs.declared.Kind.{Kind}
 use Rattle.rules.specs.declared.Kind.TheVariants as kind
-use Rattle.rules.specs.declared.Asked.{Asked}
-use Rattle.rules.specs.declared.Asked.TheVariants.{Served, Unserved}
-use Rattle.rules.specs.declared.Decision.{Decision}
-use Rattle.rules.specs.declared.Decision.TheVariants as decision
+use Rattle.rules.specs.Decision.{Decision}
+use Rattle.rules.specs.Decision as decision
 use Rattle.rules.proofs.Passed.{Unnumbered, IsAccepted, accepted_unnumbered, Called, called, Passed, passed}
 use Rattle.theorems.specs.Runs.{IsAccept}
 use Rattle.theorems.specs.Reads.{NoNumber}
@@ -42,9 +41,9 @@ module _ (c : Contents) (s : State) (r nonce : List ℕ) where
   was_unnumbered (decision.Accepted m n x) u = tt
 
 -- the kind that a code asks for
-abbrev kind_in : Asked → Kind
-kind_in (Served k) = k
-kind_in Unserved = kind.Version
+abbrev kind_in : Option Kind → Kind
+kind_in (Some k) = k
+kind_in None = kind.Version
 
 module _ (f : Facts) (s : State) (lent : Lengths) (nonce : ℕ) (r : List ℕ) (d : Decision) where
   -- the host's tests and steps 1–6 pass: d is what the request comes to
@@ -66,7 +65,7 @@ module _ (f : Facts) (s : State) (lent : Lengths) (nonce : ℕ) (r : List ℕ) (
     pub decided : last_steps f s r k ≡ d
 
   -- the code tells the kind
-  pub passed_as : (k : Kind) → kind_of (code_byte r) ≡ Served k → decision_of f s lent nonce r ≡ d → IsAccepted d → PassedAs k
+  pub passed_as : (k : Kind) → kind_of (code_byte r) ≡ Some k → decision_of f s lent nonce r ≡ d → IsAccepted d → PassedAs k
   passed_as k code e u =
       let z = called f s r d lent nonce e (accepted_unnumbered d u) in
       let p : Passed f s r d = passed f s r d u z.1 in

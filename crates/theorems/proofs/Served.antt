@@ -23,8 +23,8 @@ use Rattle.rules.specs.declared.Lengths.{Lengths}
 use Rattle.rules.specs.declared.Kind.TheVariants as kind
 use Rattle.rules.specs.declared.Message.{Message}
 use Rattle.rules.specs.declared.Message.TheVariants as message
-use Rattle.rules.specs.declared.Decision.{Decision}
-use Rattle.rules.specs.declared.Decision.TheVariants as decision
+use Rattle.rules.specs.Decision.{Decision}
+use Rattle.rules.specs.Decision as decision
 use Rattle.rules.proofs.Passed.{called, Passed}
 use Rattle.theorems.specs.Reads.{IsRead, NoNumber}
 use Rattle.theorems.proofs.Passes.{was_unnumbered, decides}

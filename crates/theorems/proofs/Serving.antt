@@ -26,8 +26,8 @@ use Rattle.rules.specs.declared.State.{State}
 use Rattle.rules.specs.declared.Lengths.{Lengths}
 use Rattle.rules.specs.declared.Kind.TheVariants as kind
 use Rattle.rules.specs.declared.Message.TheVariants as message
-use Rattle.rules.specs.declared.Decision.{Decision}
-use Rattle.rules.specs.declared.Decision.TheVariants as decision
+use Rattle.rules.specs.Decision.{Decision}
+use Rattle.rules.specs.Decision as decision
 use Rattle.rules.proofs.Tests.{own, peer_in_2, empty_in_2}
 use Rattle.rules.proofs.Passed.{IsAccepted}
 use Rattle.rules.proofs.AnswerLengths.{message_length}

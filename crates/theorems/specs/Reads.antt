@@ -11,8 +11,8 @@ use Rattle.rules.specs.Header.{version_byte, code_byte, version_of}
 use Rattle.rules.specs.Certificate.{slot_asked, offset_asked, length_asked}
 use Rattle.rules.specs.Plain.{Shown}
 use Rattle.rules.specs.declared.Negotiated.{Negotiated}
-use Rattle.rules.specs.declared.Reply.{Reply}
-use Rattle.rules.specs.declared.Reply.TheVariants as reply
+use Rattle.rules.specs.Reply.{Reply}
+use Rattle.rules.specs.Reply as reply
 use Rattle.theorems.specs.Runs.{Call, image_of, request_in, Held, box_next, box_said, box_run, Accepts, Restarts}
 
 -- the panel's calls: the restarting GET_VERSION, any calls before the negotiation ends, NEGOTIATE_ALGORITHMS, GET_DIGESTS, and the reads

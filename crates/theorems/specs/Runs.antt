@@ -10,10 +10,10 @@ use Rattle.rules.specs.Signing.{prefix_of, to_hash, finish_by, finish_reply}
 use Rattle.rules.specs.Plain.{Plain, Feed, request, finishing, Said, plain_said, plain_next, Shown, shows}
 use Rattle.rules.specs.Box.{Lent, lengths_of, parts_in, state_after, transcript_after, finished_state, finished_answer, answer_after}
 use Rattle.rules.specs.declared.State.{State}
-use Rattle.rules.specs.declared.Reply.{Reply}
-use Rattle.rules.specs.declared.Reply.TheVariants as reply
-use Rattle.rules.specs.declared.Finish.{Finish}
-use Rattle.rules.specs.declared.Finish.TheVariants as finish
+use Rattle.rules.specs.Reply.{Reply}
+use Rattle.rules.specs.Reply as reply
+use Rattle.rules.specs.Finish.{Finish}
+use Rattle.rules.specs.Finish as finish
 
 -- a call to the box: its image, the answer buffer as it is lent, how many bytes of the transcript are lent, and request and nonce, or chip
 -- result and signature

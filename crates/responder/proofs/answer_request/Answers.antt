@@ -14,8 +14,8 @@ use Rattle.rules.specs.declared.State.{State}
 use Rattle.rules.specs.declared.Negotiated.{Negotiated}
 use Rattle.rules.specs.declared.Message.{Message}
 use Rattle.rules.specs.declared.Exchange.{Exchange}
-use Rattle.rules.specs.declared.Decision.{Decision}
-use Rattle.rules.specs.declared.Decision.TheVariants as decision
+use Rattle.rules.specs.Decision.{Decision}
+use Rattle.rules.specs.Decision as decision
 use Rattle.rules.specs.declared.Outcome.{Outcome}
 use Rattle.rules.proofs.Told.{Accepted, accepted}
 use Rattle.rules.proofs.SameFacts.{facts}

@@ -5,7 +5,7 @@ use Rattle.rules.specs.Facts.{Facts, facts_at}
 use Rattle.rules.specs.Signing.{finish_of}
 use Rattle.rules.specs.declared.State.{State}
 use Rattle.rules.specs.declared.Lengths.{Lengths}
-use Rattle.rules.specs.declared.Finish.TheVariants as finish
+use Rattle.rules.specs.Finish as finish
 use Rattle.rules.proofs.Told.{FinishTold, finish-told}
 use Rattle.signing.proofs.finish_answer.Goals as goal
 
