@@ -18,7 +18,9 @@ use Rattle.rules.specs.declared.State.{State}
 use Rattle.rules.specs.declared.Message.{Message}
 use Rattle.rules.specs.declared.Exchange.{Exchange}
 use Rattle.rules.specs.declared.Outcome.{Outcome}
+use Rattle.rules.specs.declared.Accepted.{Accepted}
 use Rattle.rules.specs.Reply as reply
+use Rattle.rules.specs.Reply.{replied}
 
 -- an exchange whose answer fits a message
 pub record Measured (x : Exchange) : Type 0 where
@@ -40,9 +42,10 @@ next_state s m n x = record {
 }
 
 -- the answer, which stands in its buffer already, gets its zeros; request and answer are appended
-pub record Carried (s : State) (m : Message) (n : Negotiated) (x : Exchange) (r : List ℕ) (before after : Lent) (o : Outcome) : Type 0 where
-  pub reply : o.reply ≡ reply.Answer (whole_length x)
-  pub state : o.state ≡ next_state s m n x
-  pub answer : after.answer ≡ splice before.answer x.length (replicate x.signature 0)
+pub record Carried (s : State) (a : Accepted) (r : List ℕ) (before after : Lent) (o : Outcome) : Type 0 where
+  pub reply : replied o.reply ≡ reply.Answer (whole_length a.exchange)
+  pub state : o.state ≡ next_state s a.message a.negotiated a.exchange
+  pub answer : after.answer ≡ splice before.answer a.exchange.length (replicate a.exchange.signature 0)
   pub transcript : after.transcript
-      ≡ splice before.transcript (place_for x.part (kept_by (kind_for m)) s.used) (take x.layout r ++ take x.length after.answer)
+      ≡ splice before.transcript (place_for a.exchange.part (kept_by (kind_for a.message)) s.used)
+        (take a.exchange.layout r ++ take a.exchange.length after.answer)

@@ -9,7 +9,8 @@ ghost use Rattle.rules.proofs.Told.{Fitting};
 ghost use Rattle.responder.specs.Carried.{Measured, added_to, awaited_by, Carried};
 
 use rules::limits::{A_START, AWAITS_NOTHING, B_START, M_START};
-use rules::{Awaited, Exchange, Message, Negotiated, Outcome, Part, Reply, State, Used};
+use crate::zeros::write_zeros;
+use rules::{Accepted, Awaited, Exchange, Message, Outcome, Part, State, Used};
 
 // What an accepted request keeps of the parts: a GET_VERSION nothing, a GET_MEASUREMENTS not B, any other not M.
 fn kept(m: Message, u: Used) -> Used
@@ -62,15 +63,12 @@ fn awaited_by(x: Exchange) -> Awaited
     requires { Measured x }
     ensures { result ≡ awaited_by x }
 {
-    let fresh = state::fresh();
-    let none = fresh.awaited;
     if x.whose == AWAITS_NOTHING {
-        return none;
+        return state::fresh().awaited;
     }
     Awaited {
         whose: x.whose,
         length: (x.length + x.signature) as u32,
-        ..none
     }
 }
 
@@ -86,33 +84,28 @@ fn append(t: &mut [u8], at: usize, request: &[u8], layout: usize, answer: &[u8],
 
 pub(crate) fn accept(
     s: State,
-    m: Message,
-    negotiated: Negotiated,
-    x: Exchange,
+    accepted: Accepted,
     transcript: &mut [u8],
     answer: &mut [u8],
     request: &[u8],
 ) -> Outcome
-    requires { (Measured x) × (Fitting s request.now m x) }
+    requires { (Measured accepted.exchange) × (Fitting s request.now accepted.message accepted.exchange) }
     ensures { (
         let before : Lent = record { transcript = transcript.entry.now; answer = answer.old } in
         let after : Lent = record { transcript = transcript.exit.now; answer = answer.new } in
-        Carried s m negotiated x request.now before after result) }
+        Carried s accepted request.now before after result) }
 {
-    super::zeros::write_zeros(answer, x.length, x.signature);
-    let part = x.part;
-    let u = s.used;
-    let rest = kept(m, u);
-    let place = place_of(part, rest);
+    let x = accepted.exchange;
+    write_zeros(answer, x.length, x.signature);
+    let rest = kept(accepted.message, s.used);
+    let place = place_of(x.part, rest);
     append(transcript, place, request, x.layout, answer, x.length);
-    let used = add_to(part, rest, x.layout + x.length);
-    let awaited = awaited_by(x);
     Outcome {
-        reply: Reply::Answer(x.length + x.signature),
+        reply: Ok(x.length + x.signature),
         state: State {
-            negotiated,
-            used,
-            awaited,
+            negotiated: accepted.negotiated,
+            used: add_to(x.part, rest, x.layout + x.length),
+            awaited: awaited_by(x),
         },
     }
 }

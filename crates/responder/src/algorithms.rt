@@ -7,6 +7,7 @@ ghost use Rattle.image.specs.Read.{Fine};
 ghost use Rattle.rules.specs.Algorithms.{algorithms_bytes};
 ghost use Rattle.responder.specs.Bits.{bits_bytes};
 
+use crate::zeros::write_zeros;
 use image::{Identity, Index};
 use rules::Negotiated;
 use rules::limits::{ALGORITHMS_CODE, ALGORITHMS_LENGTH};
@@ -18,8 +19,7 @@ fn bit(n: u8) -> usize
     requires { n ≤ 8 }
     ensures { result ≡ 2 ^ n }
 {
-    let k = wire::wide(n);
-    BITS[k] as usize
+    usize::from(BITS[usize::from(n)])
 }
 
 // MeasurementHashAlgo: a bit where the specification is selected.
@@ -38,7 +38,7 @@ fn write_bits(answer: &mut [u8], id: Identity, selection: u32)
     wire::put_le(answer, 8, 4, measurement_hash(id.hash, selection));
     wire::put_le(answer, 12, 4, bit(id.signature));
     wire::put_le(answer, 16, 4, bit(id.hash));
-    super::zeros::write_zeros(answer, 20, 16);
+    write_zeros(answer, 20, 16);
 }
 
 pub(crate) fn write_algorithms(answer: &mut [u8], ix: Index, n: Negotiated)
@@ -46,11 +46,8 @@ pub(crate) fn write_algorithms(answer: &mut [u8], ix: Index, n: Negotiated)
     ensures { (c : Contents) → ix ≡ index_of c →
         answer.new ≡ splice answer.old 0 (algorithms_bytes c n) }
 {
-    let id = ix.identity;
-    let head = [state::version_of(n), ALGORITHMS_CODE, 0, 0];
-    wire::copy_into(answer, 0, &head);
+    wire::copy_into(answer, 0, &[state::version_of(n), ALGORITHMS_CODE, 0, 0]);
     wire::put_le(answer, 4, 2, ALGORITHMS_LENGTH);
-    let chosen = [n.selection as u8, 0];
-    wire::copy_into(answer, 6, &chosen);
-    write_bits(answer, id, n.selection);
+    wire::copy_into(answer, 6, &[n.selection as u8, 0]);
+    write_bits(answer, ix.identity, n.selection);
 }

@@ -22,8 +22,6 @@ pub(crate) fn write_capabilities(answer: &mut [u8], ix: Index, n: Negotiated)
     ensures { (c : Contents) → ix ≡ index_of c →
         answer.new ≡ splice answer.old 0 (capabilities_bytes c n) }
 {
-    let id = ix.identity;
-    let bits = flags(ix);
     let version = state::version_of(n);
     let head = [
         version,
@@ -31,10 +29,10 @@ pub(crate) fn write_capabilities(answer: &mut [u8], ix: Index, n: Negotiated)
         0,
         0,
         0,
-        id.exponent,
+        ix.identity.exponent,
         0,
         0,
-        bits,
+        flags(ix),
         0,
         0,
         0,

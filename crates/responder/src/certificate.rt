@@ -5,27 +5,27 @@ ghost use Rattle.image.specs.Contents.{Contents};
 ghost use Rattle.image.specs.Read.{ReadAs};
 ghost use Rattle.rules.specs.Certificate.{certificate_bytes};
 
-use image::{Index, SlotNumber};
+use image::SlotNumber;
+use image_lookup::Image;
 use rules::Negotiated;
 use rules::limits::{CERTIFICATE_CODE, CERTIFICATE_HEAD, HEADER_LENGTH};
 
 pub(crate) fn write_certificate(
     answer: &mut [u8],
-    image: &[u8],
-    ix: Index,
+    image: &Image,
     n: Negotiated,
     slot: SlotNumber,
     offset: usize,
     portion: usize,
     remainder: usize,
 )
-    ensures { (c : Contents) → ReadAs image.now ix c →
+    ensures { (c : Contents) → ReadAs image.now.bytes.now image.now.index c →
         answer.new ≡ splice answer.old 0 (certificate_bytes c n slot.0 offset portion remainder) }
 {
     let head = [
         state::version_of(n),
         CERTIFICATE_CODE,
-        image::slot_byte(slot),
+        u8::from(slot),
         0,
     ];
     wire::copy_into(answer, 0, &head);
@@ -34,6 +34,6 @@ pub(crate) fn write_certificate(
     wire::copy_into(
         answer,
         CERTIFICATE_HEAD,
-        image_lookup::chain_part(image, ix, slot, offset, portion),
+        image.chain_part(slot, offset, portion),
     );
 }

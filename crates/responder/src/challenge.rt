@@ -8,50 +8,50 @@ ghost use Rattle.image.specs.Read.{ReadAs, Fine};
 ghost use Rattle.rules.specs.Limits.{nonce_length, tcb_measurements};
 ghost use Rattle.rules.specs.Challenge.{challenge_bytes};
 
-use image::{Index, SlotNumber};
+use image::SlotNumber;
+use image_lookup::Image;
 use rules::Negotiated;
 use rules::limits::{CHALLENGE_CODE, HEADER_LENGTH, NONCE_LENGTH, TCB_MEASUREMENTS};
 
 // The summary hash that Param2 asks for, none for 0.
-fn summary_asked(image: &[u8], ix: Index, x: u8) -> &[u8]
+fn summary_asked<'a>(image: &Image<'a>, x: u8) -> &'a [u8]
     ensures { result.now ≡ pick (eqb x 0) []
-        (pick (eqb x tcb_measurements) (summary_at image.now ix 0) (summary_at image.now ix 1)) }
+        (pick (eqb x tcb_measurements) (summary_at image.now.bytes.now image.now.index 0)
+        (summary_at image.now.bytes.now image.now.index 1)) }
 {
     if x == 0 {
-        return wire::part_of(image, 0, 0);
+        return &[];
     }
     if x == TCB_MEASUREMENTS {
-        return image_lookup::tcb_summary(image, ix);
+        return image.tcb_summary();
     }
-    image_lookup::full_summary(image, ix)
+    image.full_summary()
 }
 
 pub(crate) fn write_challenge(
     answer: &mut [u8],
-    image: &[u8],
-    ix: Index,
+    image: &Image,
     nonce: &[u8],
     n: Negotiated,
     slot: SlotNumber,
     x: u8,
 )
-    requires { (Fine ix) × (length nonce.now ≡ nonce_length) }
-    ensures { (c : Contents) → ReadAs image.now ix c →
+    requires { (Fine image.now.index) × (length nonce.now ≡ nonce_length) }
+    ensures { (c : Contents) → ReadAs image.now.bytes.now image.now.index c →
         answer.new ≡ splice answer.old 0 (challenge_bytes c nonce.now n slot.0 x) }
 {
-    let mask = image_lookup::slot_mask(ix);
     let head = [
         state::version_of(n),
         CHALLENGE_CODE,
-        image::slot_byte(slot),
-        mask,
+        u8::from(slot),
+        image_lookup::slot_mask(image.index),
     ];
     wire::copy_into(answer, 0, &head);
-    let digest = image_lookup::digest(image, ix, slot);
+    let digest = image.digest(slot);
     wire::copy_into(answer, HEADER_LENGTH, digest);
     let at = HEADER_LENGTH + digest.len();
     wire::copy_into(answer, at, nonce);
-    let summary = summary_asked(image, ix, x);
+    let summary = summary_asked(image, x);
     wire::copy_into(answer, at + NONCE_LENGTH, summary);
     wire::put_le(answer, at + NONCE_LENGTH + summary.len(), 2, 0);
 }

@@ -9,9 +9,11 @@ ghost use Rattle.image.specs.Sizes.{digest_size, digest_most};
 ghost use Rattle.image.specs.Index.{index_of};
 ghost use Rattle.image.specs.Read.{ReadAs, Known};
 
-use image::Index;
+use image::limits::LABEL_LENGTH;
+use image::{Index, SlotNumber};
+use image_lookup::Image;
 use rules::limits::{MEASUREMENTS_CODE, NONCE_LENGTH};
-use rules::{Negotiated, Operation, Signer};
+use rules::{Negotiated, Operation};
 
 // A block of a measurement that is given as index, type and digest.
 fn write_block(answer: &mut [u8], at: usize, h: usize, body: &[u8])
@@ -20,52 +22,43 @@ fn write_block(answer: &mut [u8], at: usize, h: usize, body: &[u8])
 {
     // H is at most 64: one byte of each size says it
     let head = [
-        wire::byte_at(body, 0),
+        body[0],
         1,
         (3 + h) as u8,
         0,
-        wire::byte_at(body, 1),
+        body[1],
         h as u8,
         0,
     ];
     wire::copy_into(answer, at, &head);
-    wire::copy_into(answer, at + 7, wire::part_of(body, 2, h));
+    wire::copy_into(answer, at + head.len(), &body[LABEL_LENGTH..]);
 }
 
-fn write_all_blocks(answer: &mut [u8], at: usize, image: &[u8], ix: Index)
-    requires { (at ≤ 8) × (Known image.now ix) }
-    ensures { (c : Contents) → ReadAs image.now ix c →
+fn write_all_blocks(answer: &mut [u8], at: usize, image: &Image)
+    requires { (at ≤ 8) × (Known image.now.bytes.now image.now.index) }
+    ensures { (c : Contents) → ReadAs image.now.bytes.now image.now.index c →
         answer.new ≡ splice answer.old at (blocks_of (digest_size c.identity.hash) c.measurements) }
 {
-    let id = ix.identity;
-    let h = image::digest_size(id.hash);
-    let count = wire::wide(ix.measurements);
-    let mut k: usize = 0;
-    while k < count {
-        write_block(
-            answer,
-            at + k * (7 + h),
-            h,
-            image_lookup::nth_measurement(image, ix, k),
-        );
-        k = k + 1;
+    let h = image::digest_size(image.index.identity.hash);
+    for k in 0..usize::from(image.index.measurements) {
+        write_block(answer, at + k * (7 + h), h, image.nth_measurement(k));
     }
 }
 
-fn write_record(answer: &mut [u8], at: usize, image: &[u8], ix: Index, o: Operation)
-    requires { (at ≤ 8) × ((Known image.now ix) × (operation_fits (facts_at image.now ix) o ≡ true)) }
-    ensures { (c : Contents) → ReadAs image.now ix c →
+fn write_record(answer: &mut [u8], at: usize, image: &Image, o: Operation)
+    requires { (at ≤ 8) × ((Known image.now.bytes.now image.now.index)
+        × (operation_fits (facts_at image.now.bytes.now image.now.index) o ≡ true)) }
+    ensures { (c : Contents) → ReadAs image.now.bytes.now image.now.index c →
         answer.new ≡ splice answer.old at (record_of c o) }
 {
-    let id = ix.identity;
     match o {
         Operation::Count => {}
-        Operation::All => write_all_blocks(answer, at, image, ix),
-        Operation::One(i) => write_block(
+        Operation::All => write_all_blocks(answer, at, image),
+        Operation::One(index) => write_block(
             answer,
             at,
-            image::digest_size(id.hash),
-            image_lookup::measurement(image, ix, i),
+            image::digest_size(image.index.identity.hash),
+            image.measurement(index),
         ),
     }
 }
@@ -80,42 +73,37 @@ fn count_shown(ix: Index, o: Operation) -> u8
     }
 }
 
-fn slot_shown(g: Signer) -> u8
-    ensures { result ≡ slot_shown g }
+fn slot_shown(signer: Option<SlotNumber>) -> u8
+    ensures { result ≡ slot_shown signer }
 {
-    match g {
-        Signer::Nobody => 0,
-        Signer::Slot(k) => image::slot_byte(k),
-    }
+    signer.map_or(0, u8::from)
 }
 
 pub(crate) fn write_measurements(
     answer: &mut [u8],
-    image: &[u8],
-    ix: Index,
+    image: &Image,
     nonce: &[u8],
     n: Negotiated,
     o: Operation,
-    g: Signer,
+    signer: Option<SlotNumber>,
 )
-    requires { (Known image.now ix)
-        × ((length nonce.now ≡ nonce_length) × (operation_fits (facts_at image.now ix) o ≡ true)) }
-    ensures { (c : Contents) → ReadAs image.now ix c →
-        answer.new ≡ splice answer.old 0 (measurements_bytes c nonce.now n o g) }
+    requires { (Known image.now.bytes.now image.now.index)
+        × ((length nonce.now ≡ nonce_length) × (operation_fits (facts_at image.now.bytes.now image.now.index) o ≡ true)) }
+    ensures { (c : Contents) → ReadAs image.now.bytes.now image.now.index c →
+        answer.new ≡ splice answer.old 0 (measurements_bytes c nonce.now n o signer) }
 {
-    let id = ix.identity;
-    let blocks = decision::sizes::block_count(ix, o);
-    let long = wire::wide(blocks) * (7 + image::digest_size(id.hash));
+    let blocks = decision::sizes::block_count(image.index, o);
+    let long = usize::from(blocks) * (7 + image::digest_size(image.index.identity.hash));
     let head = [
         state::version_of(n),
         MEASUREMENTS_CODE,
-        count_shown(ix, o),
-        slot_shown(g),
+        count_shown(image.index, o),
+        slot_shown(signer),
         blocks,
     ];
     wire::copy_into(answer, 0, &head);
     wire::put_le(answer, 5, 3, long);
-    write_record(answer, 8, image, ix, o);
+    write_record(answer, 8, image, o);
     wire::copy_into(answer, 8 + long, nonce);
     wire::put_le(answer, 8 + long + NONCE_LENGTH, 2, 0);
 }

@@ -8,39 +8,40 @@ ghost use Rattle.rules.specs.Facts.{facts_at};
 ghost use Rattle.rules.specs.Messages.{message_bytes};
 ghost use Rattle.rules.proofs.Told.{Fields};
 
-use image::Index;
+use crate::algorithms::write_algorithms;
+use crate::capabilities::write_capabilities;
+use crate::certificate::write_certificate;
+use crate::challenge::write_challenge;
+use crate::digests::write_digests;
+use crate::measurements::write_measurements;
+use crate::version::write_version;
+use image_lookup::Image;
 use rules::{Message, Negotiated};
 
 pub(crate) fn write_message(
     answer: &mut [u8],
-    image: &[u8],
-    ix: Index,
+    image: &Image,
     nonce: &[u8],
     n: Negotiated,
     m: Message,
 )
-    requires { (Known image.now ix) × ((length nonce.now ≡ nonce_length) × Fields (facts_at image.now ix) n m) }
-    ensures { (c : Contents) → ReadAs image.now ix c →
+    requires { (Known image.now.bytes.now image.now.index)
+        × ((length nonce.now ≡ nonce_length) × Fields (facts_at image.now.bytes.now image.now.index) n m) }
+    ensures { (c : Contents) → ReadAs image.now.bytes.now image.now.index c →
         answer.new ≡ splice answer.old 0 (message_bytes c nonce.now n m) }
 {
     match m {
-        Message::Version => super::version::write_version(answer, n),
-        Message::Capabilities => super::capabilities::write_capabilities(answer, ix, n),
-        Message::Algorithms => super::algorithms::write_algorithms(answer, ix, n),
-        Message::Digests => super::digests::write_digests(answer, image, ix, n),
+        Message::Version => write_version(answer, n),
+        Message::Capabilities => write_capabilities(answer, image.index, n),
+        Message::Algorithms => write_algorithms(answer, image.index, n),
+        Message::Digests => write_digests(answer, image, n),
         Message::Certificate {
             slot,
             offset,
             portion,
             remainder,
-        } => super::certificate::write_certificate(
-            answer, image, ix, n, slot, offset, portion, remainder,
-        ),
-        Message::Challenge { slot, summary } => super::challenge::write_challenge(
-            answer, image, ix, nonce, n, slot, summary,
-        ),
-        Message::Measurements { operation, signer } => super::measurements::write_measurements(
-            answer, image, ix, nonce, n, operation, signer,
-        ),
+        } => write_certificate(answer, image, n, slot, offset, portion, remainder),
+        Message::Challenge { slot, summary } => write_challenge(answer, image, nonce, n, slot, summary),
+        Message::Measurements { operation, signer } => write_measurements(answer, image, nonce, n, operation, signer),
     }
 }
