@@ -38,6 +38,7 @@ use Rattle.rules.specs.Decision as decision
 use Rattle.rules.specs.declared.Outcome.{Outcome}
 use Rattle.rules.specs.Reply as reply
 use Rattle.rules.proofs.Told.{Accepted}
+use Rattle.rules.specs.declared.Accepted.{Accepted as AcceptedRequest}
 use Rattle.rules.proofs.Ready.{whole_length_lem, added-length, answer-length, answer-most}
 use Rattle.responder.specs.Carried.{Measured, Carried}
 use Rattle.responder.proofs.RunLaws.{splice-on}
@@ -96,7 +97,7 @@ module _ (c : Contents) (v : Valid c) (s : State) (r nonce : List ℕ) (m : Mess
   -- written, then carried out
   pub responded : (before after : Lent) (written : List ℕ) (o : Outcome) → Accepted (facts_of c) s (lengths_of before) (length nonce) r m n x
       → written ≡ splice before.answer 0 (message_bytes c nonce n m)
-      → Carried s m n x r (record { transcript = before.transcript; answer = written }) after o
+      → Carried s (record { message = m; negotiated = n; exchange = x }) r (record { transcript = before.transcript; answer = written }) after o
       → Responded (effect_of (decision.Accepted m n x) c s nonce r) s before after o
   unfolding effect_of
   responded before after written o z w k =

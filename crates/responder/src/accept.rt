@@ -59,6 +59,7 @@ fn add_to(p: Part, u: Used, n: usize) -> Used
 }
 
 // A signature is awaited for the whole answer, or nothing is.
+#[tactic(auto, using(wire::proofs::Picks::picks), unfolding(wire::specs::Pick::pick))]
 fn awaited_by(x: Exchange) -> Awaited
     requires { Measured x }
     ensures { result ≡ awaited_by x }

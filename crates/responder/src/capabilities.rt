@@ -9,6 +9,7 @@ use image::Index;
 use rules::Negotiated;
 use rules::limits::{CAPABILITIES_CODE, MEASURING_FLAGS, MESSAGE_LIMIT, PLAIN_FLAGS, VERSION_11};
 
+#[tactic(auto, using(wire::proofs::Picks::picks))]
 fn flags(ix: Index) -> u8
     ensures { result ≡ flags_of ix.measurements }
 {

@@ -14,6 +14,7 @@ use rules::Negotiated;
 use rules::limits::{CHALLENGE_CODE, HEADER_LENGTH, NONCE_LENGTH, TCB_MEASUREMENTS};
 
 // The summary hash that Param2 asks for, none for 0.
+#[tactic(auto, using(wire::proofs::Picks::picks))]
 fn summary_asked<'a>(image: &Image<'a>, x: u8) -> &'a [u8]
     ensures { result.now ≡ pick (eqb x 0) []
         (pick (eqb x tcb_measurements) (summary_at image.now.bytes.now image.now.index 0)

@@ -53,17 +53,17 @@ pub write_message-requires : goal.write_message-requires
 write_message-requires c =
     let a = c.args in
     let lent : Lent = record { transcript = a.transcript.now; answer = a.answer.now } in
-    let z = off-index a.image.now (λ i. (c.type_inv.image i).fits) a.ix a.s lent a.request.now a.nonce.now _ c.decide-d.ensures _ _ _ c.in-Accepted.is in
+    let z = off-index a.image.now.bytes.now (λ i. (c.type_inv.image-bytes i).fits) a.image.now.index a.s lent a.request.now a.nonce.now _ c.decide-d.ensures _ _ _ c.in-Accepted.is in
     (c.requires, (z.called.drawn, z.told.fields))
 
 pub accept-requires : goal.accept-requires
 accept-requires c =
     let a = c.args in
     let lent : Lent = record { transcript = a.transcript.now; answer = a.answer.now } in
-    let y : Bytes a.image.now = λ i. (c.type_inv.image i).fits in
+    let y : Bytes a.image.now.bytes.now = λ i. (c.type_inv.image-bytes i).fits in
     let k = c.requires.held in
     let rd = c.requires.same in
-    let z = off-contents a.image.now y a.ix a.s lent a.request.now a.nonce.now _ c.decide-d.ensures k rd _ _ _ c.in-Accepted.is in
+    let z = off-contents a.image.now.bytes.now y a.image.now.index a.s lent a.request.now a.nonce.now _ c.decide-d.ensures k rd _ _ _ c.in-Accepted.is in
     (measured k (valid y rd) a.s a.request.now a.nonce.now _ _ _ lent z, z.told.fitting)
 
 pub returns-in-Number : goal.returns-in-Number
@@ -71,22 +71,22 @@ unfolding effect_of
 returns-in-Number c = λ k rd.
     let a = c.args in
     let lent : Lent = record { transcript = a.transcript.now; answer = a.answer.now } in
-    settled a.image.now (λ i. (c.type_inv.image i).fits) a.ix a.s lent a.request.now a.nonce.now _ c.decide-d.ensures k rd _ c.in-Number.is _ _
+    settled a.image.now.bytes.now (λ i. (c.type_inv.image-bytes i).fits) a.image.now.index a.s lent a.request.now a.nonce.now _ c.decide-d.ensures k rd _ c.in-Number.is _ _
     (record { reply = refl; state = refl; answer = no_answer _; transcript = refl })
 
 pub returns-in-Refused : goal.returns-in-Refused
 returns-in-Refused c = λ k rd.
     let a = c.args in
     let lent : Lent = record { transcript = a.transcript.now; answer = a.answer.now } in
-    settled a.image.now (λ i. (c.type_inv.image i).fits) a.ix a.s lent a.request.now a.nonce.now _ c.decide-d.ensures k rd _ c.in-Refused.is _ _
+    settled a.image.now.bytes.now (λ i. (c.type_inv.image-bytes i).fits) a.image.now.index a.s lent a.request.now a.nonce.now _ c.decide-d.ensures k rd _ c.in-Refused.is _ _
     (c.refuse.ensures k _ _)
 
 pub returns-in-Accepted : goal.returns-in-Accepted
 returns-in-Accepted c = λ k rd.
     let a = c.args in
     let lent : Lent = record { transcript = a.transcript.now; answer = a.answer.now } in
-    let y : Bytes a.image.now = λ i. (c.type_inv.image i).fits in
+    let y : Bytes a.image.now.bytes.now = λ i. (c.type_inv.image-bytes i).fits in
     let q = c.in-Accepted.is in
-    let z = off-contents a.image.now y a.ix a.s lent a.request.now a.nonce.now _ c.decide-d.ensures k rd _ _ _ q in
-    settled a.image.now y a.ix a.s lent a.request.now a.nonce.now _ c.decide-d.ensures k rd _ q _ _
+    let z = off-contents a.image.now.bytes.now y a.image.now.index a.s lent a.request.now a.nonce.now _ c.decide-d.ensures k rd _ _ _ q in
+    settled a.image.now.bytes.now y a.image.now.index a.s lent a.request.now a.nonce.now _ c.decide-d.ensures k rd _ q _ _
     (responded k (valid y rd) a.s a.request.now a.nonce.now _ _ _ lent _ _ _ z (c.write_message.ensures k rd) c.accept.ensures)

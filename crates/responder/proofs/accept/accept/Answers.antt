@@ -25,15 +25,15 @@ module _ (s : State) (m : Message) (x : Exchange) (u : Used) (e : u ≡ kept_use
 pub append-requires : goal.append-requires
 append-requires c =
     let a = c.args in
-    (c.requires.1.long, rw c.place_of-place.ensures (omega (arith, within a.s a.m a.x _ c.kept-rest.ensures c.requires.1.room)))
+    (c.requires.1.long, rw c.place_of-place.ensures (omega (arith, within a.s a.accepted.message a.accepted.exchange _ c.kept-rest.ensures c.requires.1.room)))
 
 pub returns : goal.returns
 returns c =
     let a = c.args in
-    let kept = kept_by (kind_for a.m) in
+    let kept = kept_by (kind_for a.accepted.message) in
     record {
       reply = refl;
-      state = rw (c.awaited_by-awaited.ensures, c.add_to-used.ensures, c.kept-rest.ensures);
+      state = rw (c.awaited_by.ensures, c.add_to.ensures, c.kept-rest.ensures);
       answer = c.write_zeros.ensures;
-      transcript = c.append.ensures ∙ rw (c.place_of-place.ensures, c.kept-rest.ensures, kept_count a.x.part kept a.s.used);
+      transcript = c.append.ensures ∙ rw (c.place_of-place.ensures, c.kept-rest.ensures, kept_count a.accepted.exchange.part kept a.s.used);
     }

@@ -15,7 +15,7 @@ pub returns-then-version-eq-VERSION_11 : goal.returns-then-version-eq-VERSION_11
 unfolding capabilities_bytes pick
 returns-then-version-eq-VERSION_11 c = λ k e.
     let none : eqb (version_of c.args.n) version11 ≡ true = eq-eqb _ _ (sym c.version_of-version.ensures ∙ c.if-version-eq-VERSION_11.true) in
-    c.copy_into.ensures ∙ rw (c.version_of-version.ensures, c.flags-bits.ensures, e, none)
+    c.copy_into.ensures ∙ rw (c.version_of-version.ensures, c.flags.ensures, e, none)
 
 pub returns : goal.returns
 unfolding capabilities_bytes pick
@@ -25,5 +25,5 @@ returns c = λ k e.
     let h : List ℕ = capabilities_head k a.n in
     let w : List ℕ = le_bytes 4 message_limit in
     c.put_le-2.ensures
-    ∙ rw (c.put_le.ensures, c.copy_into.ensures, c.version_of-version.ensures, c.flags-bits.ensures, e, some, splice-on a.answer.now h w 12 refl)
+    ∙ rw (c.put_le.ensures, c.copy_into.ensures, c.version_of-version.ensures, c.flags.ensures, e, some, splice-on a.answer.now h w 12 refl)
     (splice-on a.answer.now (h ++ w) w 16 refl)

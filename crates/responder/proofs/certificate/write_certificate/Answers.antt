@@ -13,7 +13,7 @@ pub returns : goal.returns
 unfolding certificate_bytes
 returns c = λ k r.
     let a = c.args in
-    let y : Bytes a.image.now = λ i. (c.type_inv.image i).fits in
+    let y : Bytes a.image.now.bytes.now = c.args.image.now.octets in
     let h : List ℕ = version_of a.n ∷ certificate_code ∷ a.slot.0 ∷ 0 ∷ [] in
     let portion : List ℕ = le_bytes 2 a.portion in
     let remainder : List ℕ = le_bytes 2 a.remainder in
@@ -25,7 +25,7 @@ returns c = λ k r.
       c.put_le-2.ensures,
       c.put_le.ensures,
       c.copy_into.ensures,
-      c.slot_byte.ensures,
+      c.from.ensures,
       c.version_of.ensures,
       splice-on a.answer.now h portion 4 refl,
       splice-on a.answer.now (h ++ portion) remainder 6 refl,

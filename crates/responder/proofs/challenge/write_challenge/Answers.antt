@@ -13,13 +13,13 @@ use Rattle.responder.proofs.challenge.write_challenge.Goals as goal
 pub overflow_add-at-4 : goal.overflow_add-at-4
 overflow_add-at-4 c =
     let a = c.args in
-    omega (arith, ap length c.digest-digest.ensures, digest-short a.image.now a.ix a.slot.0)
+    omega (arith, ap length c.digest-digest.ensures, digest-short a.image.now.bytes.now a.image.now.index a.slot.0)
 
 pub returns : goal.returns
 unfolding challenge_bytes
 returns c = λ k r.
     let a = c.args in
-    let y : Bytes a.image.now = λ i. (c.type_inv.image i).fits in
+    let y : Bytes a.image.now.bytes.now = c.args.image.now.octets in
     c.put_le.ensures
     ∙ rw (
       c.copy_into-4.ensures,
@@ -28,9 +28,9 @@ returns c = λ k r.
       c.copy_into.ensures,
       c.digest-digest.ensures,
       c.summary_asked-summary.ensures,
-      c.slot_byte.ensures,
+      c.from.ensures,
       c.version_of.ensures,
-      c.slot_mask-mask.ensures,
+      c.slot_mask.ensures,
       digest_is y r a.slot.0,
       mask_is y r,
       tcb_is y r,

@@ -10,9 +10,6 @@ use Rattle.responder.proofs.digests.write_digests.Given as goal
 
 abbrev pub invariant-loop-slot : goal.invariant-loop-slot
 invariant-loop-slot l =
-    (l.slot ≤ slot_count) × ((l.at ≤ header_length + digest_most * l.slot)
-    × (splice l.answer l.at (joined_from (digest_at l.image l.ix) l.slot (slot_count - l.slot))
-    ≡ splice l.initial.answer header_length (joined_from (digest_at l.image l.ix) 0 slot_count)))
-
-abbrev pub decreases-loop-slot : goal.decreases-loop-slot
-decreases-loop-slot l = slot_count - l.slot
+    (l.at ≤ header_length + digest_most * l.slot)
+    × (splice l.answer l.at (joined_from (digest_at l.image.bytes.now l.image.index) l.slot (slot_count - l.slot))
+    ≡ splice l.initial.answer header_length (joined_from (digest_at l.image.bytes.now l.image.index) 0 slot_count))

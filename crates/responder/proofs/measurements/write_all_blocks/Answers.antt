@@ -20,16 +20,16 @@ few b ix y known k h count e p q =
 
 pub loop-k-init : goal.loop-k-init
 unfolding splice blocks_of
-loop-k-init c = (search rules, λ d r. refl)
+loop-k-init c = λ d r. refl
 
 pub write_block-requires : goal.write_block-requires
 write_block-requires c =
     let a = c.args in
-    let y : Bytes a.image.now = λ i. (c.type_inv.image i).fits in
+    let y : Bytes a.image.now.bytes.now = c.args.image.now.octets in
     let d : Contents = c.requires.1.held in
-    let r : ReadAs a.image.now a.ix d = c.requires.1.same in
-    let m : a.ix.measurements ≡ length d.measurements = count_is r in (
-      omega (arith, few _ _ y c.requires.1 c.loop-k.k _ _ c.wide-count.ensures.0 c.loop-k.invariant.0 c.digest_size-h.ensures.1),
+    let r : ReadAs a.image.now.bytes.now a.image.now.index d = c.requires.1.same in
+    let m : a.image.now.index.measurements ≡ length d.measurements = count_is r in (
+      omega (arith, few _ _ y c.requires.1 c.loop-k.k _ _ c.from-k-end.ensures (omega arith) c.digest_size-h.ensures.1),
       (
         c.digest_size-h.ensures.1,
         ap length (c.nth_measurement.ensures ∙ nth_is y r c.loop-k.k)
@@ -38,19 +38,16 @@ write_block-requires c =
     )
 
 pub loop-k-preserved : goal.loop-k-preserved
-loop-k-preserved c = (
-  omega arith,
-  λ d r.
+loop-k-preserved c = λ d r.
       let a = c.args in
-      let y : Bytes a.image.now = λ i. (c.type_inv.image i).fits in
-      let m : a.ix.measurements ≡ length d.measurements = count_is r in
-      rw (c.write_block.ensures, c.loop-k.invariant.1 d r, c.nth_measurement.ensures, nth_is y r c.loop-k.k, c.digest_size-h.ensures.0, size_is r)
-      (block-after a.answer.now a.at (digest_size d.identity.hash) d.measurements c.loop-k.k (valid y r).measurements (omega arith)),
-)
+      let y : Bytes a.image.now.bytes.now = c.args.image.now.octets in
+      let m : a.image.now.index.measurements ≡ length d.measurements = count_is r in
+      rw (c.write_block.ensures, c.loop-k.invariant d r, c.nth_measurement.ensures, nth_is y r c.loop-k.k, c.digest_size-h.ensures.0, size_is r)
+      (block-after a.answer.now a.at (digest_size d.identity.hash) d.measurements c.loop-k.k (valid y r).measurements (omega arith))
 
 pub returns : goal.returns
 returns c = λ d r.
     let a = c.args in
-    let m : a.ix.measurements ≡ length d.measurements = count_is r in
-    c.loop-k.invariant.1 d r
+    let m : a.image.now.index.measurements ≡ length d.measurements = count_is r in
+    c.loop-k.invariant d r
     ∙ ap (λ (ms : List Measurement). splice a.answer.now a.at (blocks_of (digest_size d.identity.hash) ms)) (take_all c.loop-k.k d.measurements (omega arith))

@@ -25,16 +25,16 @@ few b ix o y known k n h e d q =
 
 pub overflow_mul-long : goal.overflow_mul-long
 overflow_mul-long c =
-    omega (arith, few _ _ _ (λ i. (c.type_inv.image i).fits) c.requires.0 _ _ _ c.wide.ensures.0 c.block_count-blocks.ensures c.digest_size.ensures.1)
+    omega (arith, few _ _ _ (c.args.image.now.octets) c.requires.0 _ _ _ c.from.ensures c.block_count-blocks.ensures c.digest_size.ensures.1)
 
 pub returns : goal.returns
 unfolding measurements_bytes
 returns c = λ k r.
     let a = c.args in
-    let y : Bytes a.image.now = λ i. (c.type_inv.image i).fits in
+    let y : Bytes a.image.now.bytes.now = c.args.image.now.octets in
     let f : operation_fits (facts_of k) a.o ≡ true = rw (facts y r) at c.requires.1.1 in
-    let e : c.wide.result * (7 + c.digest_size.result) ≡ length (record_of k a.o) =
-    rw (c.wide.ensures.0, c.block_count-blocks.ensures, count_is r, c.digest_size.ensures.0, size_is r)
+    let e : c.from.result * (7 + c.digest_size.result) ≡ length (record_of k a.o) =
+    rw (c.from.ensures, c.block_count-blocks.ensures, count_is r, c.digest_size.ensures.0, size_is r)
     (sym (record_length k (valid y r) a.o f)) in
     c.put_le-2.ensures
     ∙ rw (
@@ -50,5 +50,5 @@ returns c = λ k r.
       e,
     )
     (measurements-run a.answer.now
-    (version_of a.n ∷ measurements_code ∷ count_shown k a.o ∷ slot_shown a.g ∷ block_count (length k.measurements) a.o ∷ [])
+    (version_of a.n ∷ measurements_code ∷ count_shown k a.o ∷ slot_shown a.signer ∷ block_count (length k.measurements) a.o ∷ [])
     (le_bytes 3 (length (record_of k a.o))) (record_of k a.o) a.nonce.now (0 ∷ 0 ∷ []) refl refl c.requires.1.0)

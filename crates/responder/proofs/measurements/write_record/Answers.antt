@@ -12,9 +12,9 @@ use Rattle.responder.proofs.measurements.write_record.Goals as goal
 pub write_block-requires : goal.write_block-requires
 write_block-requires c =
     let a = c.args in
-    let y : Bytes a.image.now = λ i. (c.type_inv.image i).fits in
+    let y : Bytes a.image.now.bytes.now = c.args.image.now.octets in
     let d : Contents = c.requires.1.0.held in
-    let r : ReadAs a.image.now a.ix d = c.requires.1.0.same in (
+    let r : ReadAs a.image.now.bytes.now a.image.now.index d = c.requires.1.0.same in (
       omega arith,
       (
         c.digest_size.ensures.1,
@@ -33,5 +33,5 @@ returns-in-All c = λ k r. rw c.in-All.is (c.write_all_blocks.ensures k r)
 pub returns-in-One : goal.returns-in-One
 returns-in-One c = λ k r.
     let a = c.args in
-    let y : Bytes a.image.now = λ i. (c.type_inv.image i).fits in
+    let y : Bytes a.image.now.bytes.now = c.args.image.now.octets in
     rw (c.in-One.is, ← size_is r, ← c.digest_size.ensures.0, ← one_is y r, ← c.measurement.ensures) c.write_block.ensures

@@ -5,13 +5,13 @@ use Rattle.responder.proofs.messages.write_message.Goals as goal
 
 pub write_algorithms-requires : goal.write_algorithms-requires
 write_algorithms-requires c =
-    (known-fine {b = c.args.image.now} (λ i. (c.type_inv.image i).fits) c.requires.0, rw c.in-Algorithms.is at c.requires.1.1)
+    (known-fine {b = c.args.image.now.bytes.now} (c.args.image.now.octets) c.requires.0, rw c.in-Algorithms.is at c.requires.1.1)
 
 pub write_digests-requires : goal.write_digests-requires
-write_digests-requires c = known-fine {b = c.args.image.now} (λ i. (c.type_inv.image i).fits) c.requires.0
+write_digests-requires c = known-fine {b = c.args.image.now.bytes.now} (c.args.image.now.octets) c.requires.0
 
 pub write_challenge-requires : goal.write_challenge-requires
-write_challenge-requires c = (known-fine {b = c.args.image.now} (λ i. (c.type_inv.image i).fits) c.requires.0, c.requires.1.0)
+write_challenge-requires c = (known-fine {b = c.args.image.now.bytes.now} (c.args.image.now.octets) c.requires.0, c.requires.1.0)
 
 pub write_measurements-requires : goal.write_measurements-requires
 write_measurements-requires c =

@@ -9,26 +9,26 @@ use Rattle.rules.specs.Effects.{effect_of}
 use Rattle.responder.proofs.RunLaws.{splice-on}
 use Rattle.responder.proofs.refuse.refuse.Goals as goal
 
-pub returns-then-step-ne-SIZE_STEP : goal.returns-then-step-ne-SIZE_STEP
+pub returns-then-refused-ne-SIZE_STEP : goal.returns-then-refused-ne-SIZE_STEP
 unfolding effect_of refused_bytes pick
-returns-then-step-ne-SIZE_STEP c = λ k t nonce.
-    let e = ne_eqb _ _ c.if-step-ne-SIZE_STEP.true in
+returns-then-refused-ne-SIZE_STEP c = λ k t nonce.
+    let e = ne_eqb _ _ c.if-refused-ne-SIZE_STEP.true in
     rw e (record {
       reply = refl;
       state = c.refused-state.ensures ∙ rw c.byte_at.ensures;
       transcript = refl;
-      answer = c.copy_into.ensures ∙ rw c.version_of.ensures;
+      answer = c.copy_into.ensures ∙ rw c.version_of-version.ensures;
     })
 
 pub returns : goal.returns
 unfolding effect_of refused_bytes pick
 returns c = λ k t nonce.
     let a = c.args in
-    let h : List ℕ = version_of a.s.negotiated ∷ error_code ∷ a.code ∷ a.extra ∷ [] in
-    let e = eq-eqb _ _ c.if-step-ne-SIZE_STEP.false in
+    let h : List ℕ = version_of a.s.negotiated ∷ error_code ∷ a.refused.code ∷ a.refused.extra ∷ [] in
+    let e = eq-eqb _ _ c.if-refused-ne-SIZE_STEP.false in
     rw e (record {
       reply = refl;
       state = c.refused-state.ensures ∙ rw c.byte_at.ensures;
       transcript = refl;
-      answer = c.put_le.ensures ∙ rw (c.copy_into.ensures, c.version_of.ensures) (splice-on a.answer.now h (le_bytes 4 a.size) 4 refl);
+      answer = c.put_le.ensures ∙ rw (c.copy_into.ensures, c.version_of-version.ensures) (splice-on a.answer.now h (le_bytes 4 a.refused.size) 4 refl);
     })
