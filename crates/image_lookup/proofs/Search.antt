@@ -26,4 +26,4 @@ module _ (b : List ℕ) (ix : Index) (i k n : ℕ) where
   unfolding search_from
   search_none h = let e : n - k ≡ 0 = omega arith in rw e
 
-pub ruleset search-steps = (search_here, search_behind, search_none)
+pub ruleset steps = (search_here, search_behind, search_none)

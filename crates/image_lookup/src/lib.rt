@@ -50,26 +50,18 @@ fn body_place(ix: Index, k: usize) -> usize
     usize::from(ix.first) + k * (HEAD_LENGTH + (LABEL_LENGTH + size_in(ix)))
 }
 
-#[tactic(auto, using(wire::proofs::Picks::picks))]
-fn bit(place: u16, weight: u8) -> u8
-    ensures { (result ≡ pick (eqb place 0) 0 weight) × (result ≤ weight) }
-{
-    if place == 0 { 0 } else { weight }
-}
-
 // The mask of the filled slots: bit k is set where slot k is filled.
+#[tactic(auto, using(crate::proofs::Mask::steps))]
 pub fn slot_mask(ix: Index) -> u8
     ensures { result ≡ mask_at ix }
 {
-    let p = ix.places;
-    bit(p[0], 1)
-        + bit(p[1], 2)
-        + bit(p[2], 4)
-        + bit(p[3], 8)
-        + bit(p[4], 16)
-        + bit(p[5], 32)
-        + bit(p[6], 64)
-        + bit(p[7], 128)
+    let mut mask = 0;
+    for (k, place) in ix.places.iter().enumerate() {
+        if *place != 0 {
+            mask += 1 << k;
+        }
+    }
+    mask
 }
 
 // An image with the index that was read of it.
@@ -130,7 +122,7 @@ impl<'a> Image<'a> {
     }
 
     // The measurement with an index, as index, type and digest; empty where there is none.
-    #[tactic(auto, using(crate::proofs::Search::search_here, crate::proofs::Search::search_behind, crate::proofs::Search::search_none))]
+    #[tactic(auto, using(crate::proofs::Search::steps))]
     pub fn measurement(&self, index: MeasurementIndex) -> &'a [u8]
         ensures { result.now ≡ measurement_at self.now.bytes.now self.now.index index.0 }
     {
