@@ -2,10 +2,11 @@
 -- Assumes nothing.
 use mathlib.Core.Path.{◌≡◌}
 use mathlib.Core.List.{List}
-use Prim.Native.Nat.{ℕ, ◌+◌, ◌^◌, ◌≤◌, ◌<◌}
+use Prim.Native.Nat.{ℕ, ◌+◌, ◌*◌, ◌%◌, ◌^◌, ◌≤◌, ◌<◌}
 use native.Mathlib.Nat.{two-pow-succ, zero-add}
 use native.Mathlib.Numerals.{add-one}
 use native.Mathlib.Omega.{arith}
+use lib.Bits.{bit_or, or_shifted_r}
 use lib.ListN.{length, get_or, drop, drop_of_length-le}
 use lib.Pow.{pow_mono}
 use lib.Seq.{drop-cons}
@@ -26,10 +27,14 @@ pub mask_end : (p : List ℕ) (k w : ℕ) → length p ≤ k → mask_from w (dr
 unfolding mask_from
 mask_end p k w h = rw (drop_of_length-le p h)
 
-pub bit-fits : (k : ℕ) → k < 8 → 2 ^ k ≤ 128
-bit-fits k h = pow_mono {i = k} {j = 7} (omega arith)
+-- a bit above those of a mask is added to it
+pub bit_set : (m k : ℕ) → m < 2 ^ k → k < 8 → bit_or m (1 * 2 ^ k % 256) ≡ m + 2 ^ k
+bit_set m k h b =
+    let w : 2 ^ k ≤ 128 = pow_mono {i = k} {j = 7} (omega arith) in
+    let e : 1 * 2 ^ k % 256 ≡ 1 * 2 ^ k = omega arith in
+    rw (e, or_shifted_r 1 k m h) (omega arith)
 
 pub bit-next : (k : ℕ) → 2 ^ (k + 1) ≡ 2 ^ k + 2 ^ k
 bit-next k = rw add-one (two-pow-succ k)
 
-pub ruleset steps = (mask_unset, mask_set, mask_end, bit-fits, bit-next)
+pub ruleset steps = (mask_unset, mask_set, mask_end, bit_set, bit-next)

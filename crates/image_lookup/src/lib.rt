@@ -58,7 +58,7 @@ pub fn slot_mask(ix: Index) -> u8
     let mut mask = 0;
     for (k, place) in ix.places.iter().enumerate() {
         if *place != 0 {
-            mask += 1 << k;
+            mask |= 1 << k;
         }
     }
     mask
