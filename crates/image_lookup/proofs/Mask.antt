@@ -14,7 +14,8 @@ use borrow.Author.Tests.{eq-eqb, ne_eqb}
 use Rattle.wire.specs.Pick.{pick}
 use Rattle.image.specs.Index.{mask_from}
 
-pub mask_unset : (p : List ℕ) (k : ℕ) → k < length p → get_or p k 0 ≡ 0 → mask_from (2 ^ k) (drop k p) ≡ mask_from (2 ^ (k + 1)) (drop (k + 1) p)
+pub mask_unset : (p : List ℕ) (k : ℕ) → k < length p → get_or p k 0 ≡ 0
+    → mask_from (2 ^ k) (drop k p) ≡ mask_from (2 ^ (k + 1)) (drop (k + 1) p)
 unfolding mask_from pick
 mask_unset p k h e = rw (add-one, two-pow-succ k, drop-cons p k 0 h, eq-eqb (get_or p k 0) 0 e, zero-add)
 
