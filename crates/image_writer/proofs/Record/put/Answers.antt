@@ -4,7 +4,7 @@ use Rattle.wire.specs.Bytes.{splice}
 use Rattle.wire.proofs.Laws.{splice_past}
 use Rattle.image.specs.Limits.{head_length}
 use Rattle.image_writer.proofs.Records.{head_then_body, head_alone}
-use Rattle.image_writer.proofs.put_record.Goals as goal
+use Rattle.image_writer.proofs.Record.put.Goals as goal
 
 pub returns-then-out-at : goal.returns-then-out-at
 returns-then-out-at c = sym (splice_past _ _ _ c.if-out-at.true)
@@ -15,5 +15,5 @@ returns-then-room-le-HEAD_LENGTH c = c.copy_into.ensures ∙ head_alone _ _ _ _ 
 pub returns : goal.returns
 returns c =
     c.copy_into-2.ensures
-    ∙ ap (λ (o : List ℕ). splice o (c.args.at + head_length) c.args.body.now) c.copy_into.ensures
-    ∙ head_then_body c.args.out.now c.args.at c.args.kind c.args.body.now
+    ∙ ap (λ (o : List ℕ). splice o (c.args.at + head_length) c.args.self.now.body.now) c.copy_into.ensures
+    ∙ head_then_body c.args.out.now c.args.at c.args.self.now.kind c.args.self.now.body.now
