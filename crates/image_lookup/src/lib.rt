@@ -3,6 +3,7 @@
 #![tactic(auto)]
 
 ghost use Rattle.std.specs.Prelude.{◌≡◌, ◌+◌, ◌<◌, ◌≤◌, MatchOption};
+ghost use Rattle.wire.specs.Bytes.{Bytes};
 ghost use Rattle.image.specs.Limits.{slot_length};
 ghost use Rattle.image.specs.Sizes.{digest_most};
 ghost use Rattle.image.specs.Index.{size_in, place_in, digest_at, chain_length_at, chain_part_at, mask_at};
@@ -30,6 +31,8 @@ pub fn slot_mask(ix: Index) -> u8
 pub struct Image<'a> {
     pub bytes: &'a [u8],
     pub index: Index,
+    // what every slice of u8 meets
+    ghost octets: { Bytes bytes.now },
 }
 
 impl<'a> Image<'a> {
