@@ -31,11 +31,19 @@ pub fn write_prefix(s: State, out: &mut [u8])
     match s.awaited.whose {
         AWAITS_CHALLENGE => {
             write_texts(out);
-            wire::copy_into(out, CONTEXT_START, b"\x00\x00\x00\x00responder-challenge_auth signing");
+            wire::copy_into(
+                out,
+                CONTEXT_START,
+                b"\x00\x00\x00\x00responder-challenge_auth signing",
+            );
         }
         AWAITS_MEASUREMENTS => {
             write_texts(out);
-            wire::copy_into(out, CONTEXT_START, b"\x00\x00\x00\x00\x00\x00responder-measurements signing");
+            wire::copy_into(
+                out,
+                CONTEXT_START,
+                b"\x00\x00\x00\x00\x00\x00responder-measurements signing",
+            );
         }
         _ => {}
     }
@@ -85,7 +93,13 @@ enum Ending {
 }
 
 #[tactic(auto, using(wire::proofs::Picks::picks), unfolding(rules::specs::Signing::finish_of))]
-fn decide_finish(ix: Index, s: State, lent: Lengths, ok: bool, size: usize) -> Result<Ending, HostError>
+fn decide_finish(
+    ix: Index,
+    s: State,
+    lent: Lengths,
+    ok: bool,
+    size: usize,
+) -> Result<Ending, HostError>
     ensures { (b : List ℕ) → finish_told result ≡ finish_of (facts_at b ix) s lent ok size }
 {
     if lent.answer < MESSAGE_LIMIT {

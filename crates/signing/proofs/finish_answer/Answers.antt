@@ -1,6 +1,6 @@
 -- A signed answer is at least as long as its signature, as the state is within its bounds; each arm does what its decision says.
 -- Assumes nothing.
-use Rattle.std.proofs.Common.{Ok, ◌≡◌, ◌≤◌, ◌∙◌, ℕ, Bool, [], refl, sym, ap, subst, arith}
+use Rattle.std.proofs.Common.{Ok, ◌≡◌, ◌≤◌, ◌∙◌, ℕ, Bool, [], sym, ap, subst, arith}
 use Rattle.rules.specs.Facts.{Facts, facts_at}
 use Rattle.rules.specs.Signing.{finish_of}
 use Rattle.rules.specs.declared.State.{State}
