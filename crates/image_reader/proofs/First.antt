@@ -5,7 +5,7 @@ use mathlib.Core.List.{List}
 use mathlib.Core.Bool.{false}
 use lib.ListN.{length, get_or}
 use Rattle.std.specs.Prelude.{Option, Some, None}
-use Prim.Native.Nat.{ℕ, ◌+◌, ◌≤◌, ◌<◌}
+use Prim.Native.Nat.{ℕ, ◌+◌, ◌-◌, ◌≤◌, ◌<◌}
 use native.Mathlib.Omega.{arith}
 use borrow.Author.Tests.{ne_eqb}
 use Rattle.wire.specs.Pick.{pick}
@@ -31,7 +31,7 @@ first_said b (number k) = number k
 first_said b (found None) = number wrong_kind
 first_said b (found (Some f)) =
     pick (eqb f.kind identity_kind)
-    (unless (identity_fault (body_in b f)) (read_on (identified (identity_in (body_in b f))) (frames_at b (f.start + f.len))))
+    (unless (identity_fault (body_in b f)) (read_on (identified (identity_in (body_in b f))) (frames_at b f.end)))
     (number wrong_kind)
 
 said_first : (b : List ℕ) (g : Result (Option Frame)) → Says b 1 g → first_said b g ≡ read_all (frames_at b 1)
@@ -78,10 +78,11 @@ module _ (b : List ℕ) {f : Frame} {g : Option Frame} (e : g ≡ Some f) (h : f
     unfolding unless
     identity-read n =
         let w = said b 1 (found (Some f)) first_frame in
-        let l : f.len ≡ identity_length = sym (part_length b f.start f.len w.inside) ∙ identity-length (body_in b f) (sym z ∙ n) in
+        let l : f.end - f.start ≡ identity_length = sym (part_length b f.start (f.end - f.start) (omega (arith, w))) ∙ identity-length (body_in b f) (sym z ∙ n) in
         let s : f.start ≡ 4 = w.start in
-        let a : f.start + f.len ≡ identity_end = omega arith in
-        let r : read_on (identified (identity_in (body_in b f))) (frames_at b (f.start + f.len)) ≡ first_said b (found (Some f)) = rw (← z) (search picks depth 6) in
+        let o = w.ordered in
+        let a : f.end ≡ identity_end = omega arith in
+        let r : read_on (identified (identity_in (body_in b f))) (frames_at b f.end) ≡ first_said b (found (Some f)) = rw (← z) (search picks depth 6) in
         ap (λ (n : ℕ). read_on (identified (identity_in (body_in b f))) (frames_at b n)) (sym a) ∙ r ∙ first_read b (found (Some f)) first_frame
 
 -- behind a good version byte the records decide

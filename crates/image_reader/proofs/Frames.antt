@@ -6,7 +6,7 @@ use mathlib.Core.List.{List}
 use Rattle.std.specs.Prelude.{Option, Some, None}
 use Prim.Native.Nat.{ℕ, zero, suc, ◌+◌, ◌-◌, ◌≤◌, ◌<◌}
 use native.Mathlib.Omega.{arith}
-use native.Mathlib.Nat.{add-zero}
+use native.Mathlib.Nat.{add-zero, add-sub_cancel_left}
 use lib.ListN.{length, get_or, drop, length-drop}
 use lib.Seq.{get_or-drop, drop-drop}
 use lib.Dec.{eqb}
@@ -22,8 +22,9 @@ use Rattle.image_reader.specs.declared.Frame.{Frame}
 -- a whole record lies within the image, and those behind it follow
 pub record Whole (b : List ℕ) (at : ℕ) (f : Frame) : Type 0 where
   pub start : f.start ≡ at + head_length
-  pub inside : f.start + f.len ≤ length b
-  pub read : frames_at b at ≡ frame f.kind (body_in b f) (frames_at b (f.start + f.len))
+  pub ordered : f.start ≤ f.end
+  pub inside : f.end ≤ length b
+  pub read : frames_at b at ≡ frame f.kind (body_in b f) (frames_at b f.end)
 
 pub record Broken (b : List ℕ) (at k : ℕ) : Type 0 where
   pub fault : k ≡ broken_record
@@ -120,7 +121,7 @@ frames_read b at =
     let h₁ = leb-false _ _ t₁ in
     let h₂ = ltb-false _ _ t₂ in
     let h₃ = ltb-false _ _ t₃ in
-    record { start = refl; inside = omega arith; read = sym (next b at h₂ h₃) })))
+    record { start = refl; ordered = omega arith; inside = omega arith; read = rw add-sub_cancel_left (sym (next b at h₂ h₃)) })))
 
 pub said : (b : List ℕ) (at : ℕ) (g : Result (Option Frame)) → g ≡ frame_at b at → Says b at g
 said b at g e = subst (Says b at) (sym e) (frames_read b at)
@@ -131,5 +132,6 @@ unfolding frames_at
 frames_whole b = let d = length-drop 1 b in fuel (length b - 1) (length b) (drop 1 b) (omega arith) (omega arith)
 
 -- a record of the image lies within it
-pub within : (b : List ℕ) (at : ℕ) (f : Frame) → found (Some f) ≡ frame_at b at → f.start + f.len ≤ length b
-within b at f e = (said b at (found (Some f)) e).inside
+pub within : (b : List ℕ) (at : ℕ) {g : Option Frame} {f : Frame} → g ≡ Some f → found g ≡ frame_at b at
+    → (f.start ≤ f.end) × (f.end ≤ length b)
+within b at {g} {f} e h = let w = said b at (found (Some f)) (rw e at h) in (w.ordered, w.inside)

@@ -7,7 +7,7 @@ use mathlib.Core.List.{List}
 use Rattle.std.specs.Prelude.{Option, Some, None}
 use Prim.Native.Nat.{ℕ, zero, suc, ◌+◌, ◌-◌, ◌*◌, ◌≤◌, ◌<◌}
 use native.Mathlib.Omega.{arith}
-use native.Mathlib.Nat.{suc-mul}
+use native.Mathlib.Nat.{suc-mul, add-sub_cancel_left}
 use lib.ListN.{length, get_or, drop}
 use lib.Seq.{get_or-drop, get_or-take}
 use lib.Dec.{eqb}
@@ -44,7 +44,7 @@ measurement-good w body m room l low high type =
 
 -- a record, and one that was found good
 abbrev frame_of : ℕ → ℕ → ℕ → Frame
-frame_of kind start len = record { kind = kind; start = start; len = len }
+frame_of kind start len = record { kind = kind; start = start; end = start + len }
 
 abbrev good_of : ℕ → ℕ → ℕ → Seen → Record
 good_of kind start len next = record { frame = frame_of kind start len; next = next }
@@ -72,7 +72,7 @@ step-good b v start len f =
     let fault = record_fault v measurement_kind (part b start len) in
     let key = get_or (part b start len) 0 0 in
     let g = pick_yes (eqb fault 0) (found (seen_after v measurement_kind key)) _ (number fault) (eq-eqb _ 0 (sym f)) refl in
-    rw (← g, measurement-seen v measurement_kind key refl)
+    rw (add-sub_cancel_left, ← g, measurement-seen v measurement_kind key refl)
 
 -- the head of a measurement of that digest size, its index left off
 abbrev head_of : ℕ → ℕ

@@ -3,7 +3,7 @@
 use mathlib.Core.Path.{◌≡◌, refl, sym, ap, ◌∙◌, subst}
 use mathlib.Core.List.{List, [], ◌∷◌, ◌++◌, append-nil}
 use Rattle.std.specs.Prelude.{Option, Some, None}
-use Prim.Native.Nat.{ℕ, suc, ◌+◌, ◌≤◌, ◌<◌}
+use Prim.Native.Nat.{ℕ, suc, ◌+◌, ◌-◌, ◌≤◌, ◌<◌}
 use native.Mathlib.Omega.{arith}
 use native.Mathlib.Nat.{add-zero}
 use lib.ListN.{length, get_or, set, length-append}
@@ -27,7 +27,7 @@ use Rattle.image_records.proofs.Good.{chain-fine, measurement-fine}
 use Rattle.image_records.proofs.Seeing.{seen-extended}
 use Rattle.image_reader.specs.declared.Frame.{Frame}
 use Rattle.image_reader.specs.declared.Record.{Record}
-use Rattle.image_reader.proofs.Frames.{Says, said, frames_read}
+use Rattle.image_reader.proofs.Frames.{Whole, Says, said, frames_read}
 use Rattle.image_reader.proofs.Runs.{measurement-seen}
 use Rattle.image.proofs.Framed.{record_length, empty}
 use Rattle.image.proofs.Sound.{Sound}
@@ -37,7 +37,7 @@ use Rattle.image.proofs.Growth.{grown, identity-grown}
 unfoldable pub concluded : List ℕ → Contents → Result (Option Record) → Result Contents
 concluded b c (number k) = number k
 concluded b c (found None) = found c
-concluded b c (found (Some r)) = read_on (extended c r.frame.kind (body_in b r.frame)) (frames_at b (r.frame.start + r.frame.len))
+concluded b c (found (Some r)) = read_on (extended c r.frame.kind (body_in b r.frame)) (frames_at b r.frame.end)
 
 framed : (b : List ℕ) (c : Contents) (at : ℕ) (g : Result (Option Frame)) → Says b at g
     → concluded b c (record_of b (seen c) g) ≡ read_on c (frames_at b at)
@@ -214,8 +214,8 @@ module _ {b : List ℕ} {c₀ : Contents} {at : ℕ} {w : Seen} {p : Places} (r 
     good : Taken b w (frame_at b at) x
     good = taken b w (frame_at b at) x (sym read)
 
-    pub good-within : (x.frame.start ≡ at + head_length) × (x.frame.start + x.frame.len ≤ length b)
-    good-within = let h = said b at (found (Some x.frame)) good.whole in (h.start, h.inside)
+    pub good-within : Whole b at x.frame
+    good-within = said b at (found (Some x.frame)) good.whole
 
     pub good-slot : x.frame.kind ≡ chain_kind → x.next.slot ≤ slot_limit
     good-slot k =
@@ -230,7 +230,7 @@ module _ {b : List ℕ} {c₀ : Contents} {at : ℕ} {w : Seen} {p : Places} (r 
         let n : x.next ≡ measured w (w.measurements + 1) (get_or (body_in b x.frame) 0 0) = good.seeing ∙ measurement-seen w x.frame.kind _ k in
         subst (λ (v : Seen). (Measuring v) × (0 < v.measurements)) (sym n) (record { chained = f.chained; few = omega arith; unsummed = f.first }, omega arith)
 
-    pub reached-next : Reached b c₀ (x.frame.start + x.frame.len) x.next (places_after p w x.frame.kind x.next.slot x.frame.start)
+    pub reached-next : Reached b c₀ x.frame.end x.next (places_after p w x.frame.kind x.next.slot x.frame.start)
     unfolding concluded
     reached-next =
         let c = r.held in
@@ -241,7 +241,10 @@ module _ {b : List ℕ} {c₀ : Contents} {at : ℕ} {w : Seen} {p : Places} (r 
         let i = good-within in
         let f : record_fault (seen c) kind body ≡ 0 = subst (λ (v : Seen). record_fault v kind body ≡ 0) r.seeing good.fine in
         let g = grown c kind body r.sound f in
-        let l : length body ≡ x.frame.len = part_length b start x.frame.len i.1 in
+        let o = i.ordered in
+        let q = i.inside in
+        let s : start ≡ at + head_length = i.start in
+        let l : length body ≡ x.frame.end - start = part_length b start (x.frame.end - start) (omega arith) in
         let n = ap length g.bytes in
         let m = length-append (image_bytes c) (record_bytes kind body) in
         let d = record_length kind body in
@@ -277,8 +280,10 @@ reached-run {b} {c₀} {p = p} r m (more {at} {v} run x k e) =
     let q = i.reached in
     let g = good-within q {x = x} refl (sym e) in
     let o = i.onward in
+    let s : x.frame.start ≡ at + head_length = g.start in
+    let d = g.ordered in
     record {
-      reached = subst (Reached b c₀ (x.frame.start + x.frame.len) x.next) (places-kept p v x.frame.kind x.next.slot x.frame.start k i.measuring) (reached-next q {x = x} refl (sym e));
+      reached = subst (Reached b c₀ x.frame.end x.next) (places-kept p v x.frame.kind x.next.slot x.frame.start k i.measuring) (reached-next q {x = x} refl (sym e));
       onward = omega arith;
       measuring = (good-measuring q {x = x} refl (sym e) k).1;
     }

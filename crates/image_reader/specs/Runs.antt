@@ -15,7 +15,7 @@ measured w n index = record { size = w.size; chains = w.chains; slot = w.slot; m
 pub data Run (b : List ℕ) (from : ℕ) (w : Seen) : ℕ → Seen → Type 0 where
   none : Run b from w from w
   more : {at : ℕ} {v : Seen} → Run b from w at v → (r : Record) → r.frame.kind ≡ measurement_kind
-      → record_of b v (frame_at b at) ≡ found (Some r) → Run b from w (r.frame.start + r.frame.len) r.next
+      → record_of b v (frame_at b at) ≡ found (Some r) → Run b from w r.frame.end r.next
 
 -- where measurements may follow one another
 pub record Measuring (w : Seen) : Type 0 where

@@ -15,17 +15,17 @@ use Rattle.image_reader.specs.declared.Record.{Record}
 unfoldable pub frames_at : List ℕ → ℕ → Frames
 frames_at b at = frames_of (length b - at) (drop at b)
 
--- the record at a place, as its kind, the place of its body and the body's length
+-- the record at a place, as its kind and where its body starts and ends
 unfoldable pub frame_at : List ℕ → ℕ → Result (Option Frame)
 frame_at b at =
     pick (leb (length b) at) (found None)
     (pick (ltb (length b - at) head_length) (number broken_record)
     (pick (ltb (length b - at - head_length) (be_at 2 b at)) (number broken_record)
-    (found (Some (record { kind = get_or b (at + 2) 0; start = at + head_length; len = be_at 2 b at })))))
+    (found (Some (record { kind = get_or b (at + 2) 0; start = at + head_length; end = at + head_length + be_at 2 b at })))))
 
 -- a record's body
 abbrev pub body_in : List ℕ → Frame → List ℕ
-body_in b f = part b f.start f.len
+body_in b f = part b f.start (f.end - f.start)
 
 -- a record at a place, held against those before it
 unfoldable pub held_record : Frame → Result Seen → Result (Option Record)

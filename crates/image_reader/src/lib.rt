@@ -7,8 +7,8 @@ ghost use Rattle.image.specs.Contents.{identity_body};
 ghost use Rattle.image.specs.Reading.{reading, read_all, read_on, identity_fault, identified};
 ghost use Rattle.image.specs.Fault.{told};
 ghost use Rattle.image.specs.Index.{answer_of};
-ghost use Rattle.image_reader.specs.Steps.{frames_at, frame_at, record_of, bodies_after, first_after};
-ghost use Rattle.image_reader.specs.Runs.{Head, Measuring, Run as Running, measured};
+ghost use Rattle.image_reader.specs.Steps.{frames_at, frame_at, body_in, record_of, bodies_after, first_after};
+ghost use Rattle.image_reader.specs.Runs.{Head, Measuring, Run};
 
 use image::limits::{
     CHAIN_KIND, HEAD_LENGTH, IDENTITY_END, IDENTITY_KIND, IMAGE_LIMIT, IMAGE_VERSION, INDEX_LIMIT,
@@ -16,12 +16,21 @@ use image::limits::{
 };
 use image::{Fault, Identity, Index, Seen};
 
-// A whole record: its kind, and the place and length of its body.
+// A whole record: its kind, and where its body starts and ends.
 #[derive(Clone, Copy)]
 struct Frame {
     kind: u8,
     start: usize,
-    len: usize,
+    end: usize,
+}
+
+impl Frame {
+    fn body(self, s: &[u8]) -> &[u8]
+        requires { (self.start ≤ self.end) × (self.end ≤ length s.now) }
+        ensures { result.now ≡ body_in s.now self }
+    {
+        &s[self.start..self.end]
+    }
 }
 
 // The record at a place of the image, None at its end.
@@ -40,10 +49,11 @@ fn frame_at(s: &[u8], at: usize) -> Result<Option<Frame>, Fault>
     if left - HEAD_LENGTH < len {
         return Err(Fault::BrokenRecord);
     }
+    let start = at + HEAD_LENGTH;
     Ok(Some(Frame {
         kind: s[at + 2],
-        start: at + HEAD_LENGTH,
-        len,
+        start,
+        end: start + len,
     }))
 }
 
@@ -63,7 +73,7 @@ fn read_record(s: &[u8], at: usize, w: Seen) -> Result<Option<Record>, Fault>
         image_records::check_end(w)?;
         return Ok(None);
     };
-    let next = image_records::hold(w, frame.kind, &s[frame.start..frame.start + frame.len])?;
+    let next = image_records::hold(w, frame.kind, frame.body(s))?;
     Ok(Some(Record { frame, next }))
 }
 
@@ -92,30 +102,19 @@ fn first_after(first: u16, w: Seen, kind: u8, start: usize) -> u16
     }
 }
 
-// Behind a run of good measurement records: the place, how many measurements there are up to it, and the index of the last.
-#[derive(Drop)]
-struct Run {
-    at: usize,
-    measurements: u8,
-    index: u8,
-}
-
 // Length, kind and the body's first byte of the record at a place, as one number.
 fn head_at(s: &[u8], at: usize) -> usize
     requires { at + head_length < length s.now }
     ensures { Head s.now at result }
 {
-    usize::from(s[at]) * 16777216
-        + usize::from(s[at + 1]) * 65536
-        + usize::from(s[at + 2]) * 256
-        + usize::from(s[at + HEAD_LENGTH])
+    u32::from_be_bytes([s[at], s[at + 1], s[at + 2], s[at + HEAD_LENGTH]]) as usize
 }
 
 // Good measurement records that stand one behind the other, from a place behind a good one on. They are all of one length, and their
 // heads, index included, rise from one to the next. Where the run ends, the plain step says what stands there.
-fn run_from(s: &[u8], from: usize, w: Seen) -> Run
+fn run_from(s: &[u8], from: usize, w: Seen) -> (usize, Seen)
     requires { (from ≤ length s.now) × ((length s.now ≤ image_limit) × Measuring w) }
-    ensures { Running s.now from w result.at (measured w result.measurements result.index) }
+    ensures { Run s.now from w result.0 result.1 }
 {
     let size = usize::from(w.size);
     let stride = HEAD_LENGTH + (LABEL_LENGTH + size);
@@ -123,29 +122,27 @@ fn run_from(s: &[u8], from: usize, w: Seen) -> Run
     let base = (LABEL_LENGTH + size) * 65536 + usize::from(MEASUREMENT_KIND) * 256;
     let room = usize::from(MEASUREMENTS_LIMIT - w.measurements) * stride;
     let end = s.len().min(from + room);
-    let mut at: usize = from;
-    let mut n: u8 = w.measurements;
+    let mut at = from;
+    let mut n = w.measurements;
     let mut last = base + usize::from(w.index);
     while at + stride <= end {
         let head = head_at(s, at);
-        if head <= last {
-            break;
-        }
-        if base + usize::from(INDEX_LIMIT) < head {
+        if head <= last || base + usize::from(INDEX_LIMIT) < head {
             break;
         }
         if TYPE_LIMIT < s[at + HEAD_LENGTH + 1] {
             break;
         }
         last = head;
-        n = n + 1;
-        at = at + stride;
+        n += 1;
+        at += stride;
     }
-    Run {
-        at,
+    let seen = Seen {
         measurements: n,
         index: (last - base) as u8,
-    }
+        ..w
+    };
+    (at, seen)
 }
 
 // The records behind the identity, one after the other; measurements behind the first by runs.
@@ -174,12 +171,9 @@ fn walk(s: &[u8], identity: Identity) -> Result<Index, Fault>
         place_chain(&mut bodies, frame.kind, next.slot, frame.start);
         first = first_after(first, w, frame.kind, frame.start);
         w = next;
-        at = frame.start + frame.len;
+        at = frame.end;
         if frame.kind == MEASUREMENT_KIND {
-            let run = run_from(s, at, w);
-            at = run.at;
-            w.measurements = run.measurements;
-            w.index = run.index;
+            (at, w) = run_from(s, at, w);
         }
     }
 }
@@ -195,7 +189,7 @@ fn read_records(s: &[u8]) -> Result<Index, Fault>
     if frame.kind != IDENTITY_KIND {
         return Err(Fault::WrongKind);
     }
-    let body = &s[frame.start..frame.start + frame.len];
+    let body = frame.body(s);
     image_records::check_identity(body)?;
     walk(s, image_records::identity_in(body))
 }

@@ -15,8 +15,5 @@ pub returns-in_default : goal.returns-in_default
 unfolding record_of unless
 returns-in_default c = rw (← c.in_ok-frame.ensures, c.in_default.is, ← c.in_ok-check_end.ensures) (grind (arith, common_steps, picks))
 
-pub overflow_add-frame : goal.overflow_add-frame
-overflow_add-frame c = omega (arith, within _ _ _ (rw c.in-Some.is at c.in_ok-frame.ensures))
-
-pub slice_bounds-hold-end : goal.slice_bounds-hold-end
-slice_bounds-hold-end c = omega (arith, within _ _ _ (rw c.in-Some.is at c.in_ok-frame.ensures))
+pub body-requires : goal.body-requires
+body-requires c = within _ _ c.in-Some.is c.in_ok-frame.ensures

@@ -20,16 +20,13 @@ pub returns-then-frame-ne-IDENTITY_KIND : goal.returns-then-frame-ne-IDENTITY_KI
 unfolding answer_of
 returns-then-frame-ne-IDENTITY_KIND c = ap answer_of (other-kind _ c.in-Some.is c.in_ok-frame.ensures c.if-frame-ne-IDENTITY_KIND.true)
 
-pub overflow_add-body : goal.overflow_add-body
-overflow_add-body c = omega (arith, within _ _ _ (rw c.in-Some.is at c.in_ok-frame.ensures))
-
-pub slice_bounds-body-end : goal.slice_bounds-body-end
-slice_bounds-body-end c = omega (arith, within _ _ _ (rw c.in-Some.is at c.in_ok-frame.ensures))
+pub body-body-requires : goal.body-body-requires
+body-body-requires c = within _ _ c.in-Some.is c.in_ok-frame.ensures
 
 pub returns-in_err-check_identity : goal.returns-in_err-check_identity
 unfolding answer_of
 returns-in_err-check_identity c =
-    let z = rw add-sub_cancel_left at c.in_err-check_identity.ensures in
+    let z = rw c.body-body.ensures at c.in_err-check_identity.ensures in
     let n = identity-refused _ c.in-Some.is c.in_ok-frame.ensures c.if-frame-ne-IDENTITY_KIND.false _ z (number-some _) in
     rw (← n) (grind (arith, common_steps))
 
@@ -38,6 +35,6 @@ walk-requires c = (c.requires, rw c.identity_in.ensures (identity-good _ (sym c.
 
 pub returns : goal.returns
 returns c =
-    let z = rw add-sub_cancel_left at c.in_ok-check_identity.ensures in
+    let z = rw c.body-body.ensures at c.in_ok-check_identity.ensures in
     c.walk.ensures
-    ∙ ap answer_of (rw (c.identity_in.ensures, add-sub_cancel_left) (identity-read _ c.in-Some.is c.in_ok-frame.ensures c.if-frame-ne-IDENTITY_KIND.false _ z refl))
+    ∙ ap answer_of (rw (c.identity_in.ensures, c.body-body.ensures) (identity-read _ c.in-Some.is c.in_ok-frame.ensures c.if-frame-ne-IDENTITY_KIND.false _ z refl))

@@ -12,13 +12,10 @@ place_chain-requires c =
     (omega arith, good-slot c.loop-found.invariant c.in-Some.is c.in-Ok.ensures)
 
 pub first_after-first-requires : goal.first_after-first-requires
-first_after-first-requires c = omega (arith, good-within c.loop-found.invariant c.in-Some.is c.in-Ok.ensures)
+first_after-first-requires c = let i = good-within c.loop-found.invariant c.in-Some.is c.in-Ok.ensures in omega arith
 
-pub overflow_add-at : goal.overflow_add-at
-overflow_add-at c = omega (arith, good-within c.loop-found.invariant c.in-Some.is c.in-Ok.ensures)
-
-pub run_from-run-requires : goal.run_from-run-requires
-run_from-run-requires c =
+pub run_from-requires : goal.run_from-requires
+run_from-requires c =
     let t = c.loop-found.invariant in
     let i = good-within t c.in-Some.is c.in-Ok.ensures in
     (omega arith, (omega arith, (good-measuring t c.in-Some.is c.in-Ok.ensures (omega arith)).0))
@@ -28,7 +25,7 @@ loop-found-smaller-then-frame-eq-MEASUREMENT_KIND c =
     let t = c.loop-found.invariant in
     let i = good-within t c.in-Some.is c.in-Ok.ensures in
     let n = reached-next t c.in-Some.is c.in-Ok.ensures in
-    let o = (reached-run n (good-measuring t c.in-Some.is c.in-Ok.ensures (omega arith)).1 c.run_from-run.ensures).onward in
+    let o = (reached-run n (good-measuring t c.in-Some.is c.in-Ok.ensures (omega arith)).1 c.run_from.ensures).onward in
     omega arith
 
 pub loop-found-preserved-then-frame-eq-MEASUREMENT_KIND : goal.loop-found-preserved-then-frame-eq-MEASUREMENT_KIND
@@ -36,10 +33,10 @@ loop-found-preserved-then-frame-eq-MEASUREMENT_KIND c =
     let t = c.loop-found.invariant in
     let n = reached-next t c.in-Some.is c.in-Ok.ensures in
     rw (c.place_chain.ensures, c.first_after-first.ensures)
-    (reached-run n (good-measuring t c.in-Some.is c.in-Ok.ensures (omega arith)).1 c.run_from-run.ensures).reached
+    (reached-run n (good-measuring t c.in-Some.is c.in-Ok.ensures (omega arith)).1 c.run_from.ensures).reached
 
 pub loop-found-smaller : goal.loop-found-smaller
-loop-found-smaller c = omega (arith, good-within c.loop-found.invariant c.in-Some.is c.in-Ok.ensures)
+loop-found-smaller c = let i = good-within c.loop-found.invariant c.in-Some.is c.in-Ok.ensures in omega arith
 
 pub loop-found-preserved : goal.loop-found-preserved
 loop-found-preserved c =
