@@ -1,48 +1,56 @@
--- NEGOTIATE_ALGORITHMS: a turn of the walk over its structures, and what is tested behind them. Assumes nothing.
+-- NEGOTIATE_ALGORITHMS: a field has no bit above its last, and the walk over the structures, turn by turn. Assumes nothing.
 use mathlib.Core.Path.{◌≡◌}
-use mathlib.Core.Bool.{Bool, false}
+use mathlib.Core.Bool.{true, false}
 use mathlib.Core.List.{List}
-use Prim.Native.Nat.{ℕ, zero, suc, ◌+◌, ◌*◌, ◌/◌, ◌%◌, ◌-◌, ◌<◌, ◌≤◌}
+use Prim.Native.Nat.{ℕ, suc, ◌+◌, ◌*◌, ◌/◌, ◌%◌, ◌^◌, ◌-◌, ◌<◌, ◌≤◌}
 use native.Mathlib.Omega.{arith}
-use lib.Dec.{ltb, leb, eqb}
+use native.Mathlib.Nat.{pow-le-pow_right, div-eq_of_lt}
+use lib.Dec.{ltb, eqb}
 use lib.ListN.{get_or}
+use borrow.Author.Tests.{eq-eqb, ne_eqb, le-ltb, lt-ltb, le-leb, lt-leb}
 use Rattle.wire.specs.Pick.{pick}
-use Rattle.wire.specs.Bytes.{le_at}
 use Rattle.rules.specs.Limits.{type_most}
-use Rattle.rules.specs.Facts.{Facts}
-use Rattle.rules.specs.Steps.{invalid}
-use Rattle.rules.specs.Algorithms.{bit_set, length_field, structures_fit, algorithms_next, algorithms_exchange}
-use Rattle.rules.specs.declared.Negotiated.{Negotiated}
-use Rattle.rules.specs.declared.Message.TheVariants as message
-use Rattle.rules.specs.Decision.{Decision, Accepted}
+use Rattle.rules.specs.Algorithms.{bit_set, length_field, structures_fit}
 
--- the decision where the structures fit: our two bits must be set
-abbrev pub offered_step : Facts → Negotiated → List ℕ → Decision
-offered_step f n r =
-    pick (bit_set (le_at 4 r 8) f.identity.signature)
-    (pick (bit_set (le_at 4 r 12) f.identity.hash)
-    (Accepted message.Algorithms (algorithms_next f n r) (algorithms_exchange r))
-    invalid)
-    invalid
+-- a number of 32 bits has no bit above the last
+pub no_bit : (v n : ℕ) → v < 2 ^ 32 → 32 ≤ n → bit_set v n ≡ false
+no_bit v n h k =
+    let p : 2 ^ 32 ≤ 2 ^ n = pow-le-pow_right (omega arith) k in
+    let e : v / 2 ^ n ≡ 0 = div-eq_of_lt (omega arith) in
+    rw e
 
--- the tests of the next structure, and those behind it
-abbrev pub one_fits : List ℕ → ℕ → ℕ → ℕ → ℕ → Bool
-one_fits r long left last at =
-    pick (ltb long (at + 4)) false
-    (pick (leb (get_or r at 0) last) false
-    (pick (ltb type_most (get_or r at 0)) false
-    (pick (eqb (get_or r (at + 1) 0 / 16) 2)
-    (structures_fit r (left - 1) (get_or r at 0) (at + 4 + 4 * (get_or r (at + 1) 0 % 16)))
-    false)))
+-- n structures, k of them behind: the next one's type and size
+module _ (r : List ℕ) (n k last at : ℕ) where
+  turn : k < n → n - k ≡ suc (n - (k + 1))
+  turn h = omega arith
 
--- one structure more of a request's, where some are left
-pub one-structure : (r : List ℕ) (long left last at : ℕ) → long ≡ length_field r → 0 < left → structures_fit r left last at ≡ one_fits r long left last at
-unfolding structures_fit
-one-structure r long zero last at e h = absurd (omega arith)
-one-structure r long (suc n) last at e h = let p : suc n - 1 ≡ n = omega arith in rw (p, e)
+  pub cut : k < n → length_field r < at + 4 → structures_fit r (n - k) last at ≡ false
+  unfolding structures_fit pick
+  cut h a = rw (turn h, lt-ltb (length_field r) (at + 4) a)
 
--- where none are left, they end at the length told
-pub no-structure : (r : List ℕ) (long left last at : ℕ) → long ≡ length_field r → left ≤ 0 → structures_fit r left last at ≡ eqb at long
-unfolding structures_fit
-no-structure r long zero last at e h = rw e
-no-structure r long (suc n) last at e h = absurd (omega arith)
+  pub not_rising : k < n → at + 4 ≤ length_field r → get_or r at 0 ≤ last → structures_fit r (n - k) last at ≡ false
+  unfolding structures_fit pick
+  not_rising h a t = rw (turn h, le-ltb (length_field r) (at + 4) a, le-leb (get_or r at 0) last t)
+
+  pub unknown : k < n → at + 4 ≤ length_field r → last < get_or r at 0 → type_most < get_or r at 0 → structures_fit r (n - k) last at ≡ false
+  unfolding structures_fit pick
+  unknown h a t u = rw (turn h, le-ltb (length_field r) (at + 4) a, lt-leb (get_or r at 0) last t, lt-ltb type_most (get_or r at 0) u)
+
+  pub misshapen : k < n → at + 4 ≤ length_field r → last < get_or r at 0 → get_or r at 0 ≤ type_most
+      → (get_or r (at + 1) 0 / 16 ≡ 2 → ⊥) → structures_fit r (n - k) last at ≡ false
+  unfolding structures_fit pick
+  misshapen h a t u v =
+      rw (turn h, le-ltb (length_field r) (at + 4) a, lt-leb (get_or r at 0) last t, le-ltb type_most (get_or r at 0) u, ne_eqb (get_or r (at + 1) 0 / 16) 2 v)
+
+  pub passed : (next : ℕ) → next ≡ at + 4 + 4 * (get_or r (at + 1) 0 % 16)
+      → k < n → at + 4 ≤ length_field r → last < get_or r at 0 → get_or r at 0 ≤ type_most → get_or r (at + 1) 0 / 16 ≡ 2
+      → structures_fit r (n - k) last at ≡ structures_fit r (n - (k + 1)) (get_or r at 0) next
+  unfolding structures_fit pick
+  passed next e h a t u v =
+      rw (turn h, le-ltb (length_field r) (at + 4) a, lt-leb (get_or r at 0) last t, le-ltb type_most (get_or r at 0) u, eq-eqb (get_or r (at + 1) 0 / 16) 2 v, e)
+
+  pub ended : n ≤ k → structures_fit r (n - k) last at ≡ eqb at (length_field r)
+  unfolding structures_fit
+  ended h = let e : n - k ≡ 0 = omega arith in rw e
+
+pub ruleset walk = (cut, not_rising, unknown, misshapen, passed, ended)

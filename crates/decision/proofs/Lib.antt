@@ -1,3 +1,2 @@
 pub mod AlgorithmLaws
 pub mod IndexLaws
-pub mod MeasurementsLaws

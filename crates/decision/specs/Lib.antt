@@ -1,1 +1,3 @@
+pub mod ImageFacts
 pub mod Small
+pub mod Tests

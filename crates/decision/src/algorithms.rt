@@ -1,102 +1,88 @@
 // NEGOTIATE_ALGORITHMS.
-ghost use Rattle.std.specs.Prelude.{◌≡◌, List, ℕ, ◌≤◌, ◌-◌, length};
-ghost use Rattle.rules.specs.Facts.{facts_at};
+ghost use Rattle.std.specs.Prelude.{◌≡◌, ◌≤◌, ◌-◌, length};
 ghost use Rattle.rules.specs.Limits.{algorithms_least, algorithms_most, type_least};
 ghost use Rattle.rules.specs.Header.{param1};
+ghost use Rattle.rules.specs.Decision.{decided};
 ghost use Rattle.rules.specs.Algorithms.{bit_set, length_field, structures_start, structures_fit, selection_for, algorithms_decision};
+ghost use Rattle.decision.specs.ImageFacts.{facts_in};
 
-use image::Index;
+use super::steps::{complete, invalid_request};
+use image_lookup::Image;
 use rules::limits::{
     ALGORITHMS_LEAST, ALGORITHMS_LENGTH, ALGORITHMS_MOST, ALGORITHMS_PHASE, TYPE_LEAST, TYPE_MOST,
 };
-use rules::{Decision, Message, Negotiated, Part};
+use rules::{Accepted, Message, Negotiated, Part, Refusal};
 
 // Whether bit n of a field is set; a field has 32.
+#[tactic(auto, using(wire::proofs::Picks::picks, crate::proofs::AlgorithmLaws::no_bit))]
 fn bit_set(v: u32, n: u8) -> bool
     ensures { result ≡ bit_set v n }
 {
-    if 31 < n {
-        return false;
-    }
-    (v >> n) % 2 == 1
+    n < 32 && (v >> n) % 2 == 1
 }
 
 // The structures: so many as Param1 says, of rising types, ending at Length.
+#[tactic(auto, using(crate::proofs::AlgorithmLaws::walk))]
 fn structures_fit(r: &[u8], long: usize) -> bool
     requires { (algorithms_least ≤ length r.now)
         × ((long ≡ length_field r.now) × ((long ≤ algorithms_most) × (long ≤ length r.now))) }
     ensures { result
         ≡ structures_fit r.now (param1 r.now) (type_least - 1) (structures_start r.now) }
 {
-    let mut left: u8 = r[2];
-    let mut last: u8 = TYPE_LEAST - 1;
-    let mut at: usize = ALGORITHMS_LEAST + 4 * wire::wide(r[28]) + 4 * wire::wide(r[29]);
-    while 0 < left {
+    let mut last = TYPE_LEAST - 1;
+    let mut at = ALGORITHMS_LEAST + 4 * usize::from(r[28]) + 4 * usize::from(r[29]);
+    for _ in 0..r[2] {
         if long < at + 4 {
             return false;
         }
         let kind = r[at];
-        if kind <= last {
-            return false;
-        }
-        if TYPE_MOST < kind {
-            return false;
-        }
         let size = r[at + 1];
-        if size / 16 != 2 {
+        if kind <= last || TYPE_MOST < kind || size / 16 != 2 {
             return false;
         }
-        left = left - 1;
         last = kind;
-        at = at + 4 + 4 * wire::wide(size % 16);
+        at += 4 + 4 * usize::from(size % 16);
     }
     at == long
 }
 
-fn selection_for(ix: Index, r: &[u8]) -> u32
-    ensures { (b : List ℕ) → result ≡ selection_for (facts_at b ix) r.now }
+#[tactic(auto, using(wire::proofs::Picks::picks))]
+fn selection_for(image: &Image, r: &[u8]) -> u32
+    ensures { result ≡ selection_for (facts_in image.now) r.now }
 {
-    if ix.measurements == 0 {
+    if image.index.measurements == 0 {
         return 0;
     }
-    (wire::byte_at(r, 6) % 2) as u32
+    u32::from(wire::byte_at(r, 6) % 2)
 }
 
-pub(crate) fn decide_algorithms(ix: Index, n: Negotiated, r: &[u8]) -> Decision
-    ensures { (b : List ℕ) → result ≡ algorithms_decision (facts_at b ix) n r.now }
+#[tactic(auto, using(wire::proofs::Picks::picks), unfolding(rules::specs::Algorithms::algorithms_decision))]
+pub(crate) fn decide_algorithms(image: &Image, n: Negotiated, r: &[u8]) -> Result<Accepted, Refusal>
+    ensures { decided result ≡ algorithms_decision (facts_in image.now) n r.now }
 {
-    let id = ix.identity;
+    let identity = image.index.identity;
     if r.len() < ALGORITHMS_LEAST {
-        return super::steps::invalid_request();
+        return Err(invalid_request());
     }
-    let long = wire::get_u16le(r, 4) as usize;
-    if long < ALGORITHMS_LEAST {
-        return super::steps::invalid_request();
-    }
-    if ALGORITHMS_MOST < long {
-        return super::steps::invalid_request();
-    }
-    if r.len() < long {
-        return super::steps::invalid_request();
+    let long = usize::from(wire::get_u16le(r, 4));
+    if long < ALGORITHMS_LEAST || ALGORITHMS_MOST < long || r.len() < long {
+        return Err(invalid_request());
     }
     if !structures_fit(r, long) {
-        return super::steps::invalid_request();
+        return Err(invalid_request());
     }
-    if !bit_set(wire::get_u32le(r, 8), id.signature) {
-        return super::steps::invalid_request();
+    if !bit_set(wire::get_u32le(r, 8), identity.signature)
+        || !bit_set(wire::get_u32le(r, 12), identity.hash)
+    {
+        return Err(invalid_request());
     }
-    if !bit_set(wire::get_u32le(r, 12), id.hash) {
-        return super::steps::invalid_request();
-    }
-    let selection = selection_for(ix, r);
-    let exchange = super::steps::complete(Part::A, long, ALGORITHMS_LENGTH);
-    Decision::Accepted {
+    Ok(Accepted {
         message: Message::Algorithms,
         negotiated: Negotiated {
             phase: ALGORITHMS_PHASE,
-            selection,
+            selection: selection_for(image, r),
             ..n
         },
-        exchange,
-    }
+        exchange: complete(Part::A, long, ALGORITHMS_LENGTH),
+    })
 }

@@ -1,16 +1,19 @@
 // GET_DIGESTS.
-ghost use Rattle.std.specs.Prelude.{◌≡◌, List, ℕ};
-ghost use Rattle.rules.specs.Facts.{facts_at};
+ghost use Rattle.std.specs.Prelude.{◌≡◌};
+ghost use Rattle.rules.specs.Decision.{decided};
 ghost use Rattle.rules.specs.Digests.{digests_decision};
+ghost use Rattle.decision.specs.ImageFacts.{facts_in};
 
-use image::Index;
+use super::sizes::digests_size;
+use super::steps::{complete, size_steps};
+use image_lookup::Image;
 use rules::limits::HEADER_LENGTH;
-use rules::{Decision, Message, Part, State};
+use rules::{Accepted, Message, Part, Refusal, State};
 
-pub(crate) fn decide_digests(ix: Index, s: State) -> Decision
-    ensures { (b : List ℕ) → result ≡ digests_decision (facts_at b ix) s }
+#[tactic(auto, unfolding(rules::specs::Digests::digests_decision))]
+pub(crate) fn decide_digests(image: &Image, s: State) -> Result<Accepted, Refusal>
+    ensures { decided result ≡ digests_decision (facts_in image.now) s }
 {
-    let size = super::sizes::digests_size(ix);
-    let x = super::steps::complete(Part::B, HEADER_LENGTH, size);
-    super::steps::size_steps(s, Message::Digests, x)
+    let exchange = complete(Part::B, HEADER_LENGTH, digests_size(image));
+    size_steps(s, Message::Digests, exchange)
 }

@@ -1,79 +1,80 @@
 // GET_MEASUREMENTS.
-ghost use Rattle.std.specs.Prelude.{◌≡◌, List, ℕ, ◌≤◌, length};
-ghost use Rattle.rules.specs.Facts.{facts_at};
+ghost use Rattle.std.specs.Prelude.{◌≡◌, ◌≤◌, length};
 ghost use Rattle.rules.specs.Limits.{header_length};
-ghost use Rattle.rules.specs.Measurements.{measurements_exchange, operation_step, operation_of, measurements_decision};
-ghost use Rattle.rules.specs.Steps.{size_steps};
-ghost use Rattle.rules.specs.declared.Message.TheVariants as message;
+ghost use Rattle.rules.specs.Decision.{decided};
+ghost use Rattle.rules.specs.Measurements.{signer_of, operation_of, operation_fits, measurements_exchange, measurements_decision};
+ghost use Rattle.decision.specs.ImageFacts.{facts_in};
+ghost use Rattle.decision.specs.Tests.{Tested, signer_passes};
 ghost use Rattle.decision.specs.Small.{Small};
 
-use image::{Index, IndexCheck, SlotCheck};
+use super::sizes::measurements_size;
+use super::steps::{complete, filled_slot, invalid_request, size_steps};
+use image::{MeasurementIndex, SlotNumber};
+use image_lookup::Image;
 use rules::limits::{ALL_MEASUREMENTS, AWAITS_MEASUREMENTS, HEADER_LENGTH, SIGNED_LAYOUT};
-use rules::{Decision, Exchange, Message, Operation, Part, Signer, State};
+use rules::{Accepted, Exchange, Message, Operation, Part, Refusal, State};
 
-fn exchange_for(ix: Index, o: Operation, g: Signer) -> Exchange
-    ensures { ((b : List ℕ) → result ≡ measurements_exchange (facts_at b ix) o g) × Small result }
+fn exchange_for(image: &Image, o: Operation, signer: Option<SlotNumber>) -> Exchange
+    ensures exchange { result ≡ measurements_exchange (facts_in image.now) o signer }
+    ensures small { Small result }
 {
-    let id = ix.identity;
-    let n = super::sizes::measurements_size(ix, o);
-    match g {
-        Signer::Nobody => super::steps::complete(Part::M, HEADER_LENGTH, n),
-        Signer::Slot(_) => Exchange {
+    let length = measurements_size(image, o);
+    match signer {
+        None => complete(Part::M, HEADER_LENGTH, length),
+        Some(_) => Exchange {
             part: Part::M,
             layout: SIGNED_LAYOUT,
-            length: n,
-            signature: image::signature_size(id.signature),
+            length,
+            signature: image::signature_size(image.index.identity.signature),
             whose: AWAITS_MEASUREMENTS,
         },
     }
 }
 
-fn decide_size(ix: Index, s: State, o: Operation, g: Signer) -> Decision
-    ensures { (b : List ℕ) → result ≡ size_steps s (message.Measurements o g) (measurements_exchange (facts_at b ix) o g) }
-{
-    let x = exchange_for(ix, o, g);
-    let m = Message::Measurements {
-        operation: o,
-        signer: g,
-    };
-    super::steps::size_steps(s, m, x)
-}
-
-fn decide_operation(image: &[u8], ix: Index, s: State, x: u8, g: Signer) -> Decision
-    ensures { result ≡ operation_step (facts_at image.now ix) s g (operation_of x) }
-{
-    if x == 0 {
-        return decide_size(ix, s, Operation::Count, g);
-    }
-    if x == ALL_MEASUREMENTS {
-        return decide_size(ix, s, Operation::All, g);
-    }
-    let checked = image::measurement_index(x);
-    let IndexCheck::Index(i) = checked else {
-        return super::steps::invalid_request();
-    };
-    if image_lookup::measurement(image, ix, i).len() == 0 {
-        return super::steps::invalid_request();
-    }
-    decide_size(ix, s, Operation::One(i), g)
-}
-
-pub(crate) fn decide_measurements(image: &[u8], ix: Index, s: State, r: &[u8]) -> Decision
+// The slot that signs, where a signature is asked.
+#[tactic(auto, using(wire::proofs::Picks::picks), unfolding(rules::specs::Measurements::signer_fits))]
+fn signer_of(image: &Image, r: &[u8]) -> Result<Option<SlotNumber>, Refusal>
     requires { header_length ≤ length r.now }
-    ensures { result ≡ measurements_decision (facts_at image.now ix) s r.now }
+    ensures { Tested result (signer_of r.now) (signer_passes (facts_in image.now) r.now) }
 {
     if r[2] % 2 != 1 {
-        return decide_operation(image, ix, s, r[3], Signer::Nobody);
+        return Ok(None);
     }
     if r.len() < SIGNED_LAYOUT {
-        return super::steps::invalid_request();
+        return Err(invalid_request());
     }
-    let checked = image::slot_number(r[36] % 16);
-    let SlotCheck::Slot(slot) = checked else {
-        return super::steps::invalid_request();
-    };
-    if image_lookup::chain_length(image, ix, slot) == 0 {
-        return super::steps::invalid_request();
+    let slot = filled_slot(image, r[36] % 16)?;
+    Ok(Some(slot))
+}
+
+// The measurement with that index, which step 7 refuses where it is out of range or there is none.
+fn present_index(image: &Image, asked: u8) -> Result<MeasurementIndex, Refusal>
+    ensures { Tested result (record { 0 = asked }) ((facts_in image.now).present asked) }
+{
+    match MeasurementIndex::new(asked) {
+        Some(index) if 0 < image.measurement(index).len() => Ok(index),
+        _ => Err(invalid_request()),
     }
-    decide_operation(image, ix, s, r[3], Signer::Slot(slot))
+}
+
+#[tactic(auto, using(wire::proofs::Picks::picks), unfolding(rules::specs::Measurements::operation_fits))]
+fn operation_of(image: &Image, x: u8) -> Result<Operation, Refusal>
+    ensures { Tested result (operation_of x) (operation_fits (facts_in image.now) (operation_of x)) }
+{
+    match x {
+        0 => Ok(Operation::Count),
+        ALL_MEASUREMENTS => Ok(Operation::All),
+        _ => Ok(Operation::One(present_index(image, x)?)),
+    }
+}
+
+#[tactic(auto, using(wire::proofs::Picks::picks), unfolding(rules::specs::Measurements::measurements_decision, rules::specs::Measurements::measurements_by, rules::specs::Measurements::operation_step))]
+pub(crate) fn decide_measurements(image: &Image, s: State, r: &[u8]) -> Result<Accepted, Refusal>
+    requires { header_length ≤ length r.now }
+    ensures { decided result ≡ measurements_decision (facts_in image.now) s r.now }
+{
+    let signer = signer_of(image, r)?;
+    let operation = operation_of(image, r[3])?;
+    let exchange = exchange_for(image, operation, signer);
+    size_steps(s, Message::Measurements { operation, signer }, exchange)
 }

@@ -1,32 +1,30 @@
 // How long answers are without their signatures. Of any index the number is the definition's.
-ghost use Rattle.std.specs.Prelude.{◌≡◌, List, ℕ, ◌<◌};
-ghost use Rattle.rules.specs.Facts.{facts_at};
+ghost use Rattle.std.specs.Prelude.{◌≡◌, ◌<◌};
 ghost use Rattle.rules.specs.Digests.{digests_size};
 ghost use Rattle.rules.specs.Challenge.{challenge_size};
 ghost use Rattle.rules.specs.Measurements.{block_count, measurements_size};
+ghost use Rattle.decision.specs.ImageFacts.{facts_in};
 
 use image::Index;
+use image_lookup::Image;
 use rules::Operation;
 use rules::limits::{HEADER_LENGTH, NONCE_LENGTH};
 
 // DIGESTS.
-pub(crate) fn digests_size(ix: Index) -> usize
-    ensures { ((b : List ℕ) → result ≡ digests_size (facts_at b ix)) × (result < 65536) }
+pub(crate) fn digests_size(image: &Image) -> usize
+    ensures { (result ≡ digests_size (facts_in image.now)) × (result < 65536) }
 {
-    let id = ix.identity;
-    HEADER_LENGTH + wire::wide(ix.chains) * image::digest_size(id.hash)
+    HEADER_LENGTH + usize::from(image.index.chains) * image::digest_size(image.index.identity.hash)
 }
 
 // CHALLENGE_AUTH.
-pub(crate) fn challenge_size(ix: Index, x: u8) -> usize
-    ensures { ((b : List ℕ) → result ≡ challenge_size (facts_at b ix) x) × (result < 65536) }
+#[tactic(auto, using(wire::proofs::Picks::picks))]
+pub(crate) fn challenge_size(image: &Image, x: u8) -> usize
+    ensures { (result ≡ challenge_size (facts_in image.now) x) × (result < 65536) }
 {
-    let id = ix.identity;
-    let h = image::digest_size(id.hash);
-    if x == 0 {
-        return HEADER_LENGTH + h + NONCE_LENGTH + 2;
-    }
-    HEADER_LENGTH + h + NONCE_LENGTH + h + 2
+    let h = image::digest_size(image.index.identity.hash);
+    let summary = if x == 0 { 0 } else { h };
+    HEADER_LENGTH + h + NONCE_LENGTH + summary + 2
 }
 
 // How many measurement blocks MEASUREMENTS has.
@@ -41,13 +39,13 @@ pub fn block_count(ix: Index, o: Operation) -> u8
 }
 
 // MEASUREMENTS.
-pub(crate) fn measurements_size(ix: Index, o: Operation) -> usize
-    ensures { ((b : List ℕ) → result ≡ measurements_size (facts_at b ix) o) × (result < 65536) }
+pub(crate) fn measurements_size(image: &Image, o: Operation) -> usize
+    ensures { (result ≡ measurements_size (facts_in image.now) o) × (result < 65536) }
 {
-    let id = ix.identity;
+    let ix = image.index;
     HEADER_LENGTH
         + 4
-        + wire::wide(block_count(ix, o)) * (7 + image::digest_size(id.hash))
+        + usize::from(block_count(ix, o)) * (7 + image::digest_size(ix.identity.hash))
         + NONCE_LENGTH
         + 2
 }

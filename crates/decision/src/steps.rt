@@ -1,50 +1,56 @@
 // The steps that every request passes, and those on an exchange.
-ghost use Rattle.std.specs.Prelude.{◌≡◌, List, false, ℕ, eqb};
-ghost use Rattle.wire.specs.Pick.{pick};
-ghost use Rattle.rules.specs.Facts.{facts_at};
-ghost use Rattle.rules.specs.Limits.{algorithms_phase, awaits_nothing};
+ghost use Rattle.std.specs.Prelude.{◌≡◌, ltb, Err};
+ghost use Rattle.rules.specs.Limits.{awaits_nothing};
 ghost use Rattle.rules.specs.Parts.{limit_of, count_of};
 ghost use Rattle.rules.specs.Header.{is_edition};
+ghost use Rattle.rules.specs.Decision.{decided};
 ghost use Rattle.rules.specs.Steps.{kind_of, long_code, must_wait, serves, carries, version_fits, in_phase, refusal, invalid, size_steps};
+ghost use Rattle.decision.specs.ImageFacts.{facts_in};
+ghost use Rattle.decision.specs.Tests.{Tested};
 ghost use Rattle.decision.specs.Small.{Small};
 
-use image::Index;
+use image::SlotNumber;
+use image_lookup::Image;
 use rules::limits::{
     A_LIMIT, ALGORITHMS_PHASE, AWAITS_NOTHING, B_LIMIT, CAPABILITIES_PHASE, CHALLENGE, FIELDS_STEP,
     GET_CAPABILITIES, GET_CERTIFICATE, GET_DIGESTS, GET_MEASUREMENTS, GET_VERSION, INVALID_REQUEST,
     M_LIMIT, NEGOTIATE_ALGORITHMS, REQUEST_TOO_LARGE, RESPONSE_TOO_LARGE, ROOM_STEP, SIZE_STEP,
     UNSPECIFIED, VERSION_10, VERSION_11, VERSION_12, VERSION_PHASE,
 };
-use rules::{Asked, Awaited, Decision, Exchange, Kind, Message, Negotiated, Part, State, Used};
+use rules::{
+    Accepted, Awaited, Exchange, Kind, Message, Negotiated, Part, Refusal, Refused, State, Used,
+};
 
 // What a request code asks for: every code that is not served, RESPOND_IF_READY included, is unsupported.
 #[tactic(auto, using(wire::proofs::Picks::picks), unfolding(rules::specs::Steps::kind_of))]
-pub(crate) fn kind_of(code: u8) -> Asked
+pub(crate) fn kind_of(code: u8) -> Option<Kind>
     ensures { result ≡ kind_of code }
 {
     match code {
-        GET_VERSION => Asked::Served(Kind::Version),
-        GET_CAPABILITIES => Asked::Served(Kind::Capabilities),
-        NEGOTIATE_ALGORITHMS => Asked::Served(Kind::Algorithms),
-        GET_DIGESTS => Asked::Served(Kind::Digests),
-        GET_CERTIFICATE => Asked::Served(Kind::Certificate),
-        CHALLENGE => Asked::Served(Kind::Challenge),
-        GET_MEASUREMENTS => Asked::Served(Kind::Measurements),
-        0..=0x80 => Asked::Unserved,
-        0x85..=0xDF => Asked::Unserved,
-        0xE2 => Asked::Unserved,
-        0xE4..=0xFF => Asked::Unserved,
+        GET_VERSION => Some(Kind::Version),
+        GET_CAPABILITIES => Some(Kind::Capabilities),
+        NEGOTIATE_ALGORITHMS => Some(Kind::Algorithms),
+        GET_DIGESTS => Some(Kind::Digests),
+        GET_CERTIFICATE => Some(Kind::Certificate),
+        CHALLENGE => Some(Kind::Challenge),
+        GET_MEASUREMENTS => Some(Kind::Measurements),
+        0..=0x80 => None,
+        0x85..=0xDF => None,
+        0xE2 => None,
+        0xE4..=0xFF => None,
     }
 }
 
 // Step 2's code.
+#[tactic(auto, using(wire::proofs::Picks::picks))]
 pub(crate) fn long_code(n: Negotiated) -> u8
     ensures { result ≡ long_code n }
 {
     if state::version_of(n) == VERSION_11 {
-        return INVALID_REQUEST;
+        INVALID_REQUEST
+    } else {
+        REQUEST_TOO_LARGE
     }
-    REQUEST_TOO_LARGE
 }
 
 // Step 3: a signature is awaited, and this is no GET_VERSION.
@@ -52,28 +58,22 @@ pub(crate) fn long_code(n: Negotiated) -> u8
 pub(crate) fn must_wait(w: Awaited, code: u8) -> bool
     ensures { result ≡ must_wait w code }
 {
-    if w.whose == AWAITS_NOTHING {
-        return false;
-    }
-    if code == GET_VERSION {
-        return false;
-    }
-    true
+    w.whose != AWAITS_NOTHING && code != GET_VERSION
 }
 
 // Step 4.
 #[tactic(auto, unfolding(rules::specs::Steps::serves))]
-pub(crate) fn serves_kind(ix: Index, k: Kind) -> bool
-    ensures { (b : List ℕ) → result ≡ serves (facts_at b ix) k }
+pub(crate) fn serves_kind(image: &Image, k: Kind) -> bool
+    ensures { result ≡ serves (facts_in image.now) k }
 {
     match k {
-        Kind::Version => true,
-        Kind::Capabilities => true,
-        Kind::Algorithms => true,
-        Kind::Digests => true,
-        Kind::Certificate => true,
-        Kind::Challenge => true,
-        Kind::Measurements => 0 < ix.measurements,
+        Kind::Version
+        | Kind::Capabilities
+        | Kind::Algorithms
+        | Kind::Digests
+        | Kind::Certificate
+        | Kind::Challenge => true,
+        Kind::Measurements => 0 < image.index.measurements,
     }
 }
 
@@ -81,20 +81,19 @@ pub(crate) fn serves_kind(ix: Index, k: Kind) -> bool
 fn is_edition(version: u8) -> bool
     ensures { result ≡ is_edition version }
 {
-    if version == VERSION_11 {
-        return true;
-    }
-    version == VERSION_12
+    version == VERSION_11 || version == VERSION_12
 }
 
 // Before a choice either edition, after it the chosen one.
+#[tactic(auto, using(wire::proofs::Picks::picks), unfolding(rules::specs::Steps::carries))]
 fn carries_edition(n: Negotiated, version: u8) -> bool
     ensures { result ≡ carries n version }
 {
     if n.phase < CAPABILITIES_PHASE {
-        return is_edition(version);
+        is_edition(version)
+    } else {
+        version == state::version_of(n)
     }
-    version == state::version_of(n)
 }
 
 // Step 5.
@@ -104,27 +103,17 @@ pub(crate) fn version_fits(n: Negotiated, version: u8, k: Kind) -> bool
 {
     match k {
         Kind::Version => version == VERSION_10,
-        Kind::Capabilities => carries_edition(n, version),
-        Kind::Algorithms => carries_edition(n, version),
-        Kind::Digests => carries_edition(n, version),
-        Kind::Certificate => carries_edition(n, version),
-        Kind::Challenge => carries_edition(n, version),
-        Kind::Measurements => carries_edition(n, version),
+        Kind::Capabilities
+        | Kind::Algorithms
+        | Kind::Digests
+        | Kind::Certificate
+        | Kind::Challenge
+        | Kind::Measurements => carries_edition(n, version),
     }
-}
-
-#[tactic(auto, using(wire::proofs::Picks::picks))]
-fn measures(n: Negotiated) -> bool
-    ensures { result ≡ pick (eqb n.phase algorithms_phase) (eqb n.selection 1) false }
-{
-    if n.phase != ALGORITHMS_PHASE {
-        return false;
-    }
-    n.selection == 1
 }
 
 // Step 6.
-#[tactic(auto, unfolding(rules::specs::Steps::in_phase))]
+#[tactic(auto, using(wire::proofs::Picks::picks), unfolding(rules::specs::Steps::in_phase))]
 pub(crate) fn in_phase(n: Negotiated, k: Kind) -> bool
     ensures { result ≡ in_phase n k }
 {
@@ -132,29 +121,37 @@ pub(crate) fn in_phase(n: Negotiated, k: Kind) -> bool
         Kind::Version => true,
         Kind::Capabilities => n.phase == VERSION_PHASE,
         Kind::Algorithms => n.phase == CAPABILITIES_PHASE,
-        Kind::Digests => n.phase == ALGORITHMS_PHASE,
-        Kind::Certificate => n.phase == ALGORITHMS_PHASE,
-        Kind::Challenge => n.phase == ALGORITHMS_PHASE,
-        Kind::Measurements => measures(n),
+        Kind::Digests | Kind::Certificate | Kind::Challenge => n.phase == ALGORITHMS_PHASE,
+        Kind::Measurements => n.phase == ALGORITHMS_PHASE && n.selection == 1,
     }
 }
 
-pub(crate) fn refused(step: u8, code: u8, extra: u8) -> Decision
-    ensures { result ≡ refusal step code extra }
+pub(crate) fn refused(step: u8, code: u8, extra: u8) -> Refusal
+    ensures { decided (Err result) ≡ refusal step code extra }
 {
-    Decision::Refused {
+    Refusal::Request(Refused {
         step,
         code,
         extra,
         size: 0,
-    }
+    })
 }
 
 // Step 7 refuses with this.
-pub(crate) fn invalid_request() -> Decision
-    ensures { result ≡ invalid }
+pub(crate) fn invalid_request() -> Refusal
+    ensures { decided (Err result) ≡ invalid }
 {
     refused(FIELDS_STEP, INVALID_REQUEST, 0)
+}
+
+// The slot with that number, which step 7 refuses where it is out of range or not filled.
+pub(crate) fn filled_slot(image: &Image, asked: u8) -> Result<SlotNumber, Refusal>
+    ensures { Tested result (record { 0 = asked }) (ltb 0 ((facts_in image.now).chain_length asked)) }
+{
+    match SlotNumber::new(asked) {
+        Some(slot) if 0 < image.chain_length(slot) => Ok(slot),
+        _ => Err(invalid_request()),
+    }
 }
 
 // The exchange of an answer that is complete.
@@ -191,30 +188,28 @@ fn count_of(p: Part, u: Used) -> u32
 }
 
 // Steps 8 and 9; what passed them is accepted.
-pub(crate) fn size_steps(s: State, m: Message, x: Exchange) -> Decision
-    requires { Small x }
-    ensures { result ≡ size_steps s m x }
+#[tactic(auto, using(wire::proofs::Picks::picks), unfolding(rules::specs::Steps::size_steps))]
+pub(crate) fn size_steps(s: State, message: Message, exchange: Exchange) -> Result<Accepted, Refusal>
+    requires { Small exchange }
+    ensures { decided result ≡ size_steps s message exchange }
 {
-    let n = s.negotiated;
-    let used = s.used;
-    let part = x.part;
-    let whole = x.length + x.signature;
-    if (n.peer as usize) < whole {
-        return Decision::Refused {
+    let whole = exchange.length + exchange.signature;
+    if (s.negotiated.peer as usize) < whole {
+        return Err(Refusal::Request(Refused {
             step: SIZE_STEP,
             code: RESPONSE_TOO_LARGE,
             extra: 0,
             size: whole,
-        };
+        }));
     }
-    let limit = limit_of(part) as usize;
-    let count = count_of(part, used) as usize;
-    if limit < count + (x.layout + x.length) {
-        return refused(ROOM_STEP, UNSPECIFIED, 0);
+    let limit = limit_of(exchange.part) as usize;
+    let count = count_of(exchange.part, s.used) as usize;
+    if limit < count + exchange.layout + exchange.length {
+        return Err(refused(ROOM_STEP, UNSPECIFIED, 0));
     }
-    Decision::Accepted {
-        message: m,
-        negotiated: n,
-        exchange: x,
-    }
+    Ok(Accepted {
+        message,
+        negotiated: s.negotiated,
+        exchange,
+    })
 }

@@ -18,7 +18,8 @@ module _ (b : List ℕ) (ix : Index) (i k n : ℕ) where
   unfolding search_from pick
   search_here h e = rw (turn h, eq-eqb (get_or (nth_at b ix k) 0 0) i e)
 
-  pub search_behind : k < n → (get_or (nth_at b ix k) 0 0 ≡ i → ⊥) → search_from b ix i k (n - k) ≡ search_from b ix i (k + 1) (n - (k + 1))
+  pub search_behind : k < n → (get_or (nth_at b ix k) 0 0 ≡ i → ⊥)
+      → search_from b ix i k (n - k) ≡ search_from b ix i (k + 1) (n - (k + 1))
   unfolding search_from pick
   search_behind h e = rw (turn h, ne_eqb (get_or (nth_at b ix k) 0 0) i e)
 
@@ -26,4 +27,4 @@ module _ (b : List ℕ) (ix : Index) (i k n : ℕ) where
   unfolding search_from
   search_none h = let e : n - k ≡ 0 = omega arith in rw e
 
-pub ruleset search-steps = (search_here, search_behind, search_none)
+pub ruleset steps = (search_here, search_behind, search_none)

@@ -1,29 +1,40 @@
 -- The records from a place on: they are what the frame at that place says, then the records behind it. More bytes of fuel than there are
 -- bytes change nothing. Assumes nothing.
-use mathlib.Core.Path.{◌≡◌, refl, sym, ap, ◌∙◌}
+use mathlib.Core.Path.{◌≡◌, refl, sym, ap, ◌∙◌, subst}
 use mathlib.Core.Bool.{Bool, true, false}
 use mathlib.Core.List.{List}
+use Rattle.std.specs.Prelude.{Option, Some, None}
 use Prim.Native.Nat.{ℕ, zero, suc, ◌+◌, ◌-◌, ◌≤◌, ◌<◌}
 use native.Mathlib.Omega.{arith}
-use native.Mathlib.Nat.{add-zero}
+use native.Mathlib.Nat.{add-zero, add-sub_cancel_left}
 use lib.ListN.{length, get_or, drop, length-drop}
 use lib.Seq.{get_or-drop, drop-drop}
 use lib.Dec.{eqb}
 use borrow.Author.Tests.{ltb-true, ltb-false, leb-true, leb-false, eqb-false, eq-eqb, ne_eqb}
 use Rattle.wire.specs.Bytes.{be_at, part}
 use Rattle.wire.specs.Pick.{pick}
-use Rattle.wire.proofs.Picks.{picks, pick_case, not_first}
-use Rattle.image.specs.Limits.{head_length}
-use Rattle.image.specs.Reading.{Frames, ended, broken, frame, frames_of}
-use Rattle.image_reader.specs.Steps.{frames_at, frame_at}
+use Rattle.wire.proofs.Picks.{picks, pick_case}
+use Rattle.image.specs.Limits.{head_length, broken_record}
+use Rattle.image.specs.Reading.{Result, number, found, Frames, ended, broken, frame, frames_of}
+use Rattle.image_reader.specs.Steps.{frames_at, frame_at, body_in}
 use Rattle.image_reader.specs.declared.Frame.{Frame}
-use Rattle.image_reader.specs.declared.Frame.TheVariants as fr
 
--- the records that a frame says
-unfoldable pub followed : List ℕ → Frame → Frames
-followed b fr.End = ended
-followed b fr.Broken = broken
-followed b (fr.Whole kind start len) = frame kind (part b start len) (frames_at b (start + len))
+-- a whole record lies within the image, and those behind it follow
+pub record Whole (b : List ℕ) (at : ℕ) (f : Frame) : Type 0 where
+  pub start : f.start ≡ at + head_length
+  pub ordered : f.start ≤ f.end
+  pub inside : f.end ≤ length b
+  pub read : frames_at b at ≡ frame f.kind (body_in b f) (frames_at b f.end)
+
+pub record Broken (b : List ℕ) (at k : ℕ) : Type 0 where
+  pub fault : k ≡ broken_record
+  pub read : frames_at b at ≡ broken
+
+-- what the answer of `frame_at` says of the records from that place on
+abbrev pub Says : List ℕ → ℕ → Result (Option Frame) → Type 0
+Says b at (number k) = Broken b at k
+Says b at (found None) = frames_at b at ≡ ended
+Says b at (found (Some f)) = Whole b at f
 
 -- both branches alike, the second where the test failed
 two_ways : {A : Type 0} (t : Bool) (x y z : A) → (t ≡ false → y ≡ z) → pick t x y ≡ pick t x z
@@ -96,45 +107,31 @@ at_long b at h k =
     let e = length_at b at in
     long (length b - at) (drop at b) (omega arith) (omega arith)
 
--- what the frame at a place says is what is there
-pub frames_read : (b : List ℕ) (at : ℕ) → followed b (frame_at b at) ≡ frames_at b at
-unfolding frame_at followed
+-- what is said of a place holds there
+pub frames_read : (b : List ℕ) (at : ℕ) → Says b at (frame_at b at)
+unfolding frame_at
 frames_read b at =
-    pick_case (λ (f : Frame). followed b f ≡ frames_at b at) _ _ _
-    (λ t. at-end b at (leb-true _ _ t))
-    (λ t₁. pick_case (λ (f : Frame). followed b f ≡ frames_at b at) _ _ _
-    (λ t. at-short b at (leb-false _ _ t₁) (ltb-true _ _ t))
-    (λ t₂. pick_case (λ (f : Frame). followed b f ≡ frames_at b at) _ _ _
-    (λ t. at_long b at (ltb-false _ _ t₂) (ltb-true _ _ t))
-    (λ t₃. next b at (ltb-false _ _ t₂) (ltb-false _ _ t₃))))
+    pick_case (Says b at) _ _ _
+    (λ t. sym (at-end b at (leb-true _ _ t)))
+    (λ t₁. pick_case (Says b at) _ _ _
+    (λ t. record { fault = refl; read = sym (at-short b at (leb-false _ _ t₁) (ltb-true _ _ t)) })
+    (λ t₂. pick_case (Says b at) _ _ _
+    (λ t. record { fault = refl; read = sym (at_long b at (ltb-false _ _ t₂) (ltb-true _ _ t)) })
+    (λ t₃.
+    let h₁ = leb-false _ _ t₁ in
+    let h₂ = ltb-false _ _ t₂ in
+    let h₃ = ltb-false _ _ t₃ in
+    record { start = refl; ordered = omega arith; inside = omega arith; read = rw add-sub_cancel_left (sym (next b at h₂ h₃)) })))
+
+pub said : (b : List ℕ) (at : ℕ) (g : Result (Option Frame)) → g ≡ frame_at b at → Says b at g
+said b at g e = subst (Says b at) (sym e) (frames_read b at)
 
 -- the records behind the version byte
 pub frames_whole : (b : List ℕ) → frames_at b 1 ≡ frames_of (length b) (drop 1 b)
 unfolding frames_at
 frames_whole b = let d = length-drop 1 b in fuel (length b - 1) (length b) (drop 1 b) (omega arith) (omega arith)
 
--- a whole record lies within the image
-pub whole-within : (b : List ℕ) (at kind start len : ℕ) → frame_at b at ≡ fr.Whole kind start len → (start ≡ at + head_length) × (start + len ≤ length b)
-unfolding frame_at
-whole-within b at kind start len e =
-    let a₁ = not_first _ _ _ _ e (λ z. no_end z) in
-    let a₂ = not_first _ _ _ _ a₁.1 (λ z. no-broken z) in
-    let a₃ = not_first _ _ _ _ a₂.1 (λ z. no-broken z) in
-    let h₁ : at < length b = leb-false _ _ a₁.0 in
-    let h₂ : head_length ≤ length b - at = ltb-false _ _ a₂.0 in
-    let h₃ : be_at 2 b at ≤ length b - at - head_length = ltb-false _ _ a₃.0 in
-    let s : at + head_length ≡ start = same_start a₃.1 in
-    let n : be_at 2 b at ≡ len = same_length a₃.1 in
-    (sym s, omega arith)
-  where
-    no_end : {k s l : ℕ} → fr.End ≡ fr.Whole k s l → ⊥
-    no_end e = let z : ◌≡◌ {A = ℕ} 0 1 = cc in omega arith
-
-    no-broken : {k s l : ℕ} → fr.Broken ≡ fr.Whole k s l → ⊥
-    no-broken e = let z : ◌≡◌ {A = ℕ} 0 1 = cc in omega arith
-
-    same_start : {k k' s s' l l' : ℕ} → fr.Whole k s l ≡ fr.Whole k' s' l' → s ≡ s'
-    same_start e = cc
-
-    same_length : {k k' s s' l l' : ℕ} → fr.Whole k s l ≡ fr.Whole k' s' l' → l ≡ l'
-    same_length e = cc
+-- a record of the image lies within it
+pub within : (b : List ℕ) (at : ℕ) {g : Option Frame} {f : Frame} → g ≡ Some f → found g ≡ frame_at b at
+    → (f.start ≤ f.end) × (f.end ≤ length b)
+within b at {g} {f} e h = let w = said b at (found (Some f)) (rw e at h) in (w.ordered, w.inside)

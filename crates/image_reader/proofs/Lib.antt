@@ -1,4 +1,3 @@
-pub mod Enums
 pub mod Frames
 pub mod First
 pub mod Turns

@@ -4,9 +4,10 @@
 use mathlib.Core.Path.{◌≡◌, refl, sym, ap, ◌∙◌, subst}
 use mathlib.Core.Bool.{false}
 use mathlib.Core.List.{List}
+use Rattle.std.specs.Prelude.{Option, Some, None}
 use Prim.Native.Nat.{ℕ, zero, suc, ◌+◌, ◌-◌, ◌*◌, ◌≤◌, ◌<◌}
 use native.Mathlib.Omega.{arith}
-use native.Mathlib.Nat.{suc-mul}
+use native.Mathlib.Nat.{suc-mul, add-sub_cancel_left}
 use lib.ListN.{length, get_or, drop}
 use lib.Seq.{get_or-drop, get_or-take}
 use lib.Dec.{eqb}
@@ -15,14 +16,13 @@ use Rattle.wire.specs.Bytes.{be_at, part}
 use Rattle.wire.proofs.Laws.{part_length}
 use Rattle.wire.proofs.Picks.{picks, pick_yes, pick_no}
 use Rattle.image.specs.Limits.{head_length, chain_kind, measurement_kind, measurements_limit, index_limit, type_limit}
-use Rattle.image.specs.Reading.{measurement_fault, record_fault}
+use Rattle.image.specs.Reading.{Result, found, number, unless, measurement_fault, record_fault}
 use Rattle.image.specs.declared.Seen.{Seen}
 use Rattle.image_records.specs.Records.{seen_after, held_of}
-use Rattle.image_records.specs.declared.Held.TheVariants as held
 use Rattle.image_reader.specs.Steps.{frame_at, held_record, record_of}
 use Rattle.image_reader.specs.Runs.{measured, Run, none, more, Measuring, Head}
-use Rattle.image_reader.specs.declared.Frame.TheVariants as fr
-use Rattle.image_reader.specs.declared.Record.TheVariants as rec
+use Rattle.image_reader.specs.declared.Frame.{Frame}
+use Rattle.image_reader.specs.declared.Record.{Record}
 
 -- what is seen past a measurement
 pub measurement-seen : (w : Seen) (kind key : ℕ) → kind ≡ measurement_kind
@@ -42,9 +42,16 @@ measurement-good w body m room l low high type =
     let t : eqb w.chains 0 ≡ false = ne_eqb w.chains 0 (λ z. omega arith) in
     search picks depth 20
 
+-- a record, and one that was found good
+abbrev frame_of : ℕ → ℕ → ℕ → Frame
+frame_of kind start len = record { kind = kind; start = start; end = start + len }
+
+abbrev good_of : ℕ → ℕ → ℕ → Seen → Record
+good_of kind start len next = record { frame = frame_of kind start len; next = next }
+
 -- a record that ends within the bytes is whole
 frame-whole : (b : List ℕ) (at : ℕ) → at + head_length + be_at 2 b at ≤ length b
-    → fr.Whole (get_or b (at + 2) 0) (at + head_length) (be_at 2 b at) ≡ frame_at b at
+    → found (Some (frame_of (get_or b (at + 2) 0) (at + head_length) (be_at 2 b at))) ≡ frame_at b at
 unfolding frame_at
 frame-whole b at h =
     let p : at < length b = omega arith in
@@ -58,14 +65,14 @@ body-byte b start len i place h e = get_or-take len (drop start b) i 0 h ∙ get
 
 -- the plain step on a whole measurement that passes every test
 step-good : (b : List ℕ) (v : Seen) (start len : ℕ) → 0 ≡ record_fault v measurement_kind (part b start len)
-    → record_of b v (fr.Whole measurement_kind start len)
-    ≡ rec.Good measurement_kind start len (measured v (v.measurements + 1) (get_or (part b start len) 0 0))
-unfolding record_of held_record held_of
+    → record_of b v (found (Some (frame_of measurement_kind start len)))
+    ≡ found (Some (good_of measurement_kind start len (measured v (v.measurements + 1) (get_or (part b start len) 0 0))))
+unfolding record_of held_record held_of unless
 step-good b v start len f =
     let fault = record_fault v measurement_kind (part b start len) in
     let key = get_or (part b start len) 0 0 in
-    let g = pick_yes (eqb fault 0) (held.Good (seen_after v measurement_kind key)) _ (held.Fault fault) (eq-eqb _ 0 (sym f)) refl in
-    rw (← g, measurement-seen v measurement_kind key refl)
+    let g = pick_yes (eqb fault 0) (found (seen_after v measurement_kind key)) _ (number fault) (eq-eqb _ 0 (sym f)) refl in
+    rw (add-sub_cancel_left, ← g, measurement-seen v measurement_kind key refl)
 
 -- the head of a measurement of that digest size, its index left off
 abbrev head_of : ℕ → ℕ
@@ -76,7 +83,7 @@ head_good : (b : List ℕ) (v : Seen) (at x : ℕ) → Head b at x → Measuring
     → at + (head_length + (2 + v.size)) ≤ length b
     → head_of v.size + v.index < x → x ≤ head_of v.size + index_limit → get_or b (at + head_length + 1) 0 ≤ type_limit
     → record_of b v (frame_at b at)
-    ≡ rec.Good measurement_kind (at + head_length) (2 + v.size) (measured v (v.measurements + 1) (x - head_of v.size))
+    ≡ found (Some (good_of measurement_kind (at + head_length) (2 + v.size) (measured v (v.measurements + 1) (x - head_of v.size))))
 head_good b v at x g m room inside low high type =
     let e = g.value in
     let k = g.kind in
@@ -92,7 +99,7 @@ head_good b v at x g m room inside low high type =
     let z = measurement-good v body m room l (omega arith) (omega arith) (omega arith) in
     let w = rw (kind, len) at (frame-whole b at (omega arith)) in
     ap (record_of b v) (sym w) ∙ step-good b v start (2 + v.size) z
-    ∙ ap (λ (n : ℕ). rec.Good measurement_kind start (2 + v.size) (measured v (v.measurements + 1) n)) (i₀ ∙ index)
+    ∙ ap (λ (n : ℕ). found (Some (good_of measurement_kind start (2 + v.size) (measured v (v.measurements + 1) n)))) (i₀ ∙ index)
 
 -- A turn of the run. Of what was seen before it the loop keeps the digest size, the count and the last head only, so the run is claimed
 -- whatever else was seen.
@@ -166,7 +173,7 @@ module _ {b : List ℕ} {from size stride base far end n₀ last₀ at n last : 
             let h = head_good b v at x g y turn_room (omega arith) (omega arith) (omega arith) type in
             let c : at + head_length + (2 + w.size) ≡ at + stride = omega arith in
             let j : x - head_of w.size ≡ x - base = ap (λ (y : ℕ). x - y) q in
-            rw (c, j) at (more (t.run w m s k e) (at + head_length) (2 + w.size) _ h);
+            rw (c, j) at (more (t.run w m s k e) (good_of measurement_kind (at + head_length) (2 + w.size) _) refl h);
         low = let o = t.low in omega arith;
         high = omega arith;
         few = omega (arith, turn_room);

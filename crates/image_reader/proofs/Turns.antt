@@ -2,7 +2,8 @@
 -- by as many as it has, and what the walk carries is read off the contents so far. Assumes nothing.
 use mathlib.Core.Path.{◌≡◌, refl, sym, ap, ◌∙◌, subst}
 use mathlib.Core.List.{List, [], ◌∷◌, ◌++◌, append-nil}
-use Prim.Native.Nat.{ℕ, suc, ◌+◌, ◌≤◌, ◌<◌}
+use Rattle.std.specs.Prelude.{Option, Some, None}
+use Prim.Native.Nat.{ℕ, suc, ◌+◌, ◌-◌, ◌≤◌, ◌<◌}
 use native.Mathlib.Omega.{arith}
 use native.Mathlib.Nat.{add-zero}
 use lib.ListN.{length, get_or, set, length-append}
@@ -16,64 +17,57 @@ use Rattle.image.specs.Sizes.{digest_size}
 use Rattle.image.specs.Limits.{head_length, identity_end, chain_kind, measurement_kind, slot_limit}
 use Rattle.image.specs.Contents.{Chain, Measurement, Contents, identity_body, chain_body, record_bytes, records_bytes, identity_bytes, image_bytes}
 use Rattle.image.specs.Reading.{Result, number, found, unless, seen, identity_fault, record_fault, identified, chain_in, measurement_in, summary_in, add_chain, add_measurement, add_summary, extended, read_on}
-use Rattle.image.specs.Index.{no_places, places_of, first_of, chains_end, index_of, refused_by, accepted_at, answer_of}
-use Rattle.image_reader.specs.Steps.{frames_at, frame_at, held_record, record_of, bodies_after, first_after, places_after, index_from}
+use Rattle.image.specs.Index.{no_places, places_of, first_of, chains_end, index_of, answer_of}
+use Rattle.image_reader.specs.Steps.{Places, frames_at, frame_at, body_in, held_record, record_of, bodies_after, first_after, places_after, index_from}
 use Rattle.image_reader.specs.Runs.{Measuring, measured, Run, none, more}
 use Rattle.image.specs.declared.Identity.{Identity}
 use Rattle.image.specs.declared.Seen.{Seen}
 use Rattle.image_records.specs.Records.{seen_first, seen_after, held_of}
-use Rattle.image_records.specs.declared.Held.{Held}
 use Rattle.image_records.proofs.Good.{chain-fine, measurement-fine}
 use Rattle.image_records.proofs.Seeing.{seen-extended}
-use Rattle.image_reader.specs.declared.Places.{Places}
 use Rattle.image_reader.specs.declared.Frame.{Frame}
-use Rattle.image_reader.specs.declared.Frame.TheVariants as fr
 use Rattle.image_reader.specs.declared.Record.{Record}
-use Rattle.image_reader.specs.declared.Record.TheVariants as rec
-use Rattle.image_reader.proofs.Frames.{followed, frames_read, whole-within}
+use Rattle.image_reader.proofs.Frames.{Whole, Says, said, frames_read}
 use Rattle.image_reader.proofs.Runs.{measurement-seen}
 use Rattle.image.proofs.Framed.{record_length, empty}
 use Rattle.image.proofs.Sound.{Sound}
 use Rattle.image.proofs.Growth.{grown, identity-grown}
 
 -- what the reading comes to, by the record that was read
-unfoldable pub concluded : List ℕ → Contents → Record → Result Contents
-concluded b c rec.End = found c
-concluded b c (rec.Refused k) = number k
-concluded b c (rec.Good kind start len next) = read_on (extended c kind (part b start len)) (frames_at b (start + len))
+unfoldable pub concluded : List ℕ → Contents → Result (Option Record) → Result Contents
+concluded b c (number k) = number k
+concluded b c (found None) = found c
+concluded b c (found (Some r)) = read_on (extended c r.frame.kind (body_in b r.frame)) (frames_at b r.frame.end)
 
-framed : (b : List ℕ) (c : Contents) (f : Frame) → concluded b c (record_of b (seen c) f) ≡ read_on c (followed b f)
-unfolding record_of held_record held_of followed read_on concluded unless
-framed b c fr.End = pick-map (concluded b c) _ _ _ _ _ (λ t. refl) (λ t. refl)
-framed b c fr.Broken = refl
-framed b c (fr.Whole kind start len) = pick-map (λ (h : Held). concluded b c (held_record kind start len h)) _ _ _ _ _ (λ t. refl) (λ t. refl)
+framed : (b : List ℕ) (c : Contents) (at : ℕ) (g : Result (Option Frame)) → Says b at g
+    → concluded b c (record_of b (seen c) g) ≡ read_on c (frames_at b at)
+unfolding record_of held_record held_of read_on concluded unless
+framed b c at (number k) p = rw (p.fault, p.read)
+framed b c at (found None) p = rw p (pick-map (concluded b c) _ _ _ _ _ (λ t. refl) (λ t. refl))
+framed b c at (found (Some f)) p =
+    rw p.read (pick-map (λ (h : Result Seen). concluded b c (held_record f h)) _ _ _ _ _ (λ t. refl) (λ t. refl))
 
 pub turn_read : (b : List ℕ) (c : Contents) (at : ℕ) → concluded b c (record_of b (seen c) (frame_at b at)) ≡ read_on c (frames_at b at)
-turn_read b c at = framed b c (frame_at b at) ∙ ap (read_on c) (frames_read b at)
+turn_read b c at = framed b c at (frame_at b at) (frames_read b at)
 
 -- a good record is a whole frame without a fault, and it carries what is seen past it
-pub record Taken (b : List ℕ) (w : Seen) (f : Frame) (kind start len : ℕ) (next : Seen) : Type 0 where
-  pub whole : f ≡ fr.Whole kind start len
-  pub fine : record_fault w kind (part b start len) ≡ 0
-  pub seeing : next ≡ seen_after w kind (get_or (part b start len) 0 0)
+pub record Taken (b : List ℕ) (w : Seen) (g : Result (Option Frame)) (r : Record) : Type 0 where
+  pub whole : found (Some r.frame) ≡ g
+  pub fine : record_fault w r.frame.kind (body_in b r.frame) ≡ 0
+  pub seeing : r.next ≡ seen_after w r.frame.kind (get_or (body_in b r.frame) 0 0)
 
-pub taken : (b : List ℕ) (w : Seen) (f : Frame) (kind start len : ℕ) (next : Seen) → record_of b w f ≡ rec.Good kind start len next → Taken b w f kind start len next
-unfolding record_of held_record held_of
-taken b w fr.End kind start len next e =
-    either (Taken b w fr.End kind start len next) _ _ _ _ e
-    (λ t g. let z : ◌≡◌ {A = ℕ} 0 1 = cc in absurd (omega arith))
-    (λ t g. let z : ◌≡◌ {A = ℕ} 0 1 = cc in absurd (omega arith))
-taken b w fr.Broken kind start len next e = let z : ◌≡◌ {A = ℕ} 0 1 = cc in absurd (omega arith)
-taken b w (fr.Whole k s l) kind start len next e =
-    pick_case (λ (h : Held). held_record k s l h ≡ rec.Good kind start len next → Taken b w (fr.Whole k s l) kind start len next) _ _ _
+pub taken : (b : List ℕ) (w : Seen) (g : Result (Option Frame)) (r : Record) → record_of b w g ≡ found (Some r) → Taken b w g r
+unfolding record_of held_record held_of unless
+taken b w (number k) r e = cc
+taken b w (found None) r e = either (Taken b w (found None) r) _ _ _ _ e (λ t g. cc) (λ t g. cc)
+taken b w (found (Some f)) r e =
+    pick_case (λ (h : Result Seen). held_record f h ≡ found (Some r) → Taken b w (found (Some f)) r) _ _ _
     (λ t g.
-    let ek : k ≡ kind = cc in
-    let es : s ≡ start = cc in
-    let el : l ≡ len = cc in
-    let f : record_fault w k (part b s l) ≡ 0 = eqb-true (record_fault w k (part b s l)) 0 t in
-    let v : seen_after w k (get_or (part b s l) 0 0) ≡ next = cc in
-    record { whole = cc; fine = rw (ek, es, el) at f; seeing = sym (rw (ek, es, el) at v) })
-    (λ t g. let z : ◌≡◌ {A = ℕ} 0 1 = cc in absurd (omega arith))
+    let k : r.frame ≡ f = cc in
+    let v : seen_after w f.kind (get_or (body_in b f) 0 0) ≡ r.next = cc in
+    let z : record_fault w f.kind (body_in b f) ≡ 0 = eqb-true _ 0 t in
+    record { whole = cc; fine = rw k z; seeing = rw k (sym v) })
+    (λ t g. cc)
     e
 
 -- places are alike where both fields are
@@ -198,49 +192,59 @@ module _ {b : List ℕ} {c₀ : Contents} {at : ℕ} {w : Seen} {p : Places} (r 
   here : read_on c₀ (frames_at b identity_end) ≡ concluded b r.held (record_of b w (frame_at b at))
   here = r.same ∙ sym (turn_read b r.held at) ∙ ap (λ (v : Seen). concluded b r.held (record_of b v (frame_at b at))) (sym r.seeing)
 
-  pub reached-refused : (k : ℕ) → record_of b w (frame_at b at) ≡ rec.Refused k → refused_by k ≡ answer_of (read_on c₀ (frames_at b identity_end))
+  pub reached-refused : (k : ℕ) → number k ≡ record_of b w (frame_at b at) → number k ≡ answer_of (read_on c₀ (frames_at b identity_end))
   unfolding concluded answer_of
-  reached-refused k e = sym (ap answer_of (here ∙ ap (concluded b r.held) e))
+  reached-refused k e = sym (ap answer_of (here ∙ ap (concluded b r.held) (sym e)))
 
-  pub reached-end : record_of b w (frame_at b at) ≡ rec.End → accepted_at (index_from c₀.identity w p) ≡ answer_of (read_on c₀ (frames_at b identity_end))
+  pub reached-end : {g : Option Record} → g ≡ None → found g ≡ record_of b w (frame_at b at)
+      → found (index_from c₀.identity w p) ≡ answer_of (read_on c₀ (frames_at b identity_end))
   unfolding concluded answer_of
-  reached-end e =
+  reached-end n f =
+      let e = rw n at f in
       let v = r.seeing in
       let q = r.places in
       let x = r.identity in
       let i : index_from c₀.identity w p ≡ index_of r.held = cc in
-      ap accepted_at i ∙ sym (ap answer_of (here ∙ ap (concluded b r.held) e))
+      ap found i ∙ sym (ap answer_of (here ∙ ap (concluded b r.held) (sym e)))
 
-  module _ (kind start len : ℕ) (next : Seen) (e : record_of b w (frame_at b at) ≡ rec.Good kind start len next) where
-    good : Taken b w (frame_at b at) kind start len next
-    good = taken b w (frame_at b at) kind start len next e
+  module _ {x : Record} {g : Option Record} (e : g ≡ Some x) (f : found g ≡ record_of b w (frame_at b at)) where
+    read : found (Some x) ≡ record_of b w (frame_at b at)
+    read = rw e at f
 
-    pub good-within : (start ≡ at + head_length) × (start + len ≤ length b)
-    good-within = whole-within b at kind start len good.whole
+    good : Taken b w (frame_at b at) x
+    good = taken b w (frame_at b at) x (sym read)
 
-    pub good-slot : kind ≡ chain_kind → next.slot ≤ slot_limit
+    pub good-within : Whole b at x.frame
+    good-within = said b at (found (Some x.frame)) good.whole
+
+    pub good-slot : x.frame.kind ≡ chain_kind → x.next.slot ≤ slot_limit
     good-slot k =
-        let n = ap (λ (v : Seen). v.slot) (good.seeing ∙ sym (pick_yes _ _ _ _ (eq-eqb kind chain_kind k) refl)) in
-        let h = (chain-fine w kind (part b start len) good.fine k).slot in
+        let n = ap (λ (v : Seen). v.slot) (good.seeing ∙ sym (pick_yes _ _ _ _ (eq-eqb x.frame.kind chain_kind k) refl)) in
+        let h = (chain-fine w x.frame.kind (body_in b x.frame) good.fine k).slot in
         omega arith
 
     -- behind a good measurement more may follow
-    pub good-measuring : kind ≡ measurement_kind → (Measuring next) × (0 < next.measurements)
+    pub good-measuring : x.frame.kind ≡ measurement_kind → (Measuring x.next) × (0 < x.next.measurements)
     good-measuring k =
-        let f = measurement-fine w kind (part b start len) good.fine k in
-        let n : next ≡ measured w (w.measurements + 1) (get_or (part b start len) 0 0) = good.seeing ∙ measurement-seen w kind _ k in
+        let f = measurement-fine w x.frame.kind (body_in b x.frame) good.fine k in
+        let n : x.next ≡ measured w (w.measurements + 1) (get_or (body_in b x.frame) 0 0) = good.seeing ∙ measurement-seen w x.frame.kind _ k in
         subst (λ (v : Seen). (Measuring v) × (0 < v.measurements)) (sym n) (record { chained = f.chained; few = omega arith; unsummed = f.first }, omega arith)
 
-    pub reached-next : Reached b c₀ (start + len) next (places_after p w kind next.slot start)
+    pub reached-next : Reached b c₀ x.frame.end x.next (places_after p w x.frame.kind x.next.slot x.frame.start)
     unfolding concluded
     reached-next =
         let c = r.held in
-        let body = part b start len in
+        let kind = x.frame.kind in
+        let start = x.frame.start in
+        let body = body_in b x.frame in
         let key = get_or body 0 0 in
         let i = good-within in
         let f : record_fault (seen c) kind body ≡ 0 = subst (λ (v : Seen). record_fault v kind body ≡ 0) r.seeing good.fine in
         let g = grown c kind body r.sound f in
-        let l : length body ≡ len = part_length b start len i.1 in
+        let o = i.ordered in
+        let q = i.inside in
+        let s : start ≡ at + head_length = i.start in
+        let l : length body ≡ x.frame.end - start = part_length b start (x.frame.end - start) (omega arith) in
         let n = ap length g.bytes in
         let m = length-append (image_bytes c) (record_bytes kind body) in
         let d = record_length kind body in
@@ -248,7 +252,7 @@ module _ {b : List ℕ} {c₀ : Contents} {at : ℕ} {w : Seen} {p : Places} (r 
         let a : start ≡ length (image_bytes c) + head_length = omega arith in
         record {
           held = extended c kind body;
-          same = here ∙ ap (concluded b c) e;
+          same = here ∙ ap (concluded b c) (sym read);
           sound = g.sound;
           seeing = good.seeing ∙ ap (λ (v : Seen). seen_after v kind key) r.seeing ∙ sym (seen-extended c kind body);
           places = ap (λ (v : Seen). places_after p w kind v.slot start) good.seeing ∙ sym (slot_seen p w kind key start)
@@ -259,9 +263,9 @@ module _ {b : List ℕ} {c₀ : Contents} {at : ℕ} {w : Seen} {p : Places} (r 
         }
 
 -- a measurement behind another leaves the places as they are
-places-kept : (p : Places) (v : Seen) (slot start : ℕ) → 0 < v.measurements → places_after p v measurement_kind slot start ≡ p
+places-kept : (p : Places) (v : Seen) (kind slot start : ℕ) → kind ≡ measurement_kind → 0 < v.measurements → places_after p v kind slot start ≡ p
 unfolding pick
-places-kept p v slot start m = let t = ne_eqb v.measurements 0 (λ z. omega arith) in rw t
+places-kept p v kind slot start k m = let t = ne_eqb v.measurements 0 (λ z. omega arith) in rw (k, t)
 
 -- a run behind a measurement moves the turn on
 pub record Ran (b : List ℕ) (c₀ : Contents) (from : ℕ) (p : Places) (at : ℕ) (v : Seen) : Type 0 where
@@ -271,14 +275,15 @@ pub record Ran (b : List ℕ) (c₀ : Contents) (from : ℕ) (p : Places) (at : 
 
 pub reached-run : {b : List ℕ} {c₀ : Contents} {from : ℕ} {w : Seen} {p : Places} {at : ℕ} {v : Seen} → Reached b c₀ from w p → 0 < w.measurements → Run b from w at v → Ran b c₀ from p at v
 reached-run r m none = record { reached = r; onward = omega arith; measuring = m }
-reached-run {b} {c₀} {p = p} r m (more {at} {v} run start len next e) =
+reached-run {b} {c₀} {p = p} r m (more {at} {v} run x k e) =
     let i = reached-run r m run in
     let q = i.reached in
-    let n = reached-next q measurement_kind start len next e in
-    let g = good-within q measurement_kind start len next e in
+    let g = good-within q {x = x} refl (sym e) in
     let o = i.onward in
+    let s : x.frame.start ≡ at + head_length = g.start in
+    let d = g.ordered in
     record {
-      reached = subst (Reached b c₀ (start + len) next) (places-kept p v next.slot start i.measuring) n;
+      reached = subst (Reached b c₀ x.frame.end x.next) (places-kept p v x.frame.kind x.next.slot x.frame.start k i.measuring) (reached-next q {x = x} refl (sym e));
       onward = omega arith;
-      measuring = (good-measuring q measurement_kind start len next e refl).1;
+      measuring = (good-measuring q {x = x} refl (sym e) k).1;
     }

@@ -5,160 +5,101 @@ ghost use Rattle.std.specs.Prelude.{◌≡◌, ◌+◌, ◌<◌, ◌≤◌, leng
 ghost use Rattle.image.specs.Limits.{image_limit, head_length, slot_limit, chain_kind, identity_end};
 ghost use Rattle.image.specs.Contents.{identity_body};
 ghost use Rattle.image.specs.Reading.{reading, read_all, read_on, identity_fault, identified};
-ghost use Rattle.image.specs.Index.{refused_by, accepted_at, answer_of};
-ghost use Rattle.image_reader.specs.Steps.{frames_at, frame_at, record_of, bodies_after, first_after, index_from};
-ghost use Rattle.image_reader.specs.Runs.{Head, Measuring, Run as Running, measured};
+ghost use Rattle.image.specs.Fault.{told};
+ghost use Rattle.image.specs.Index.{answer_of};
+ghost use Rattle.image_reader.specs.Steps.{frames_at, frame_at, body_in, record_of, bodies_after, first_after};
+ghost use Rattle.image_reader.specs.Runs.{Head, Measuring, Run};
 
 use image::limits::{
-    BROKEN_RECORD, CHAIN_KIND, HEAD_LENGTH, IDENTITY_END, IDENTITY_KIND, IMAGE_LIMIT,
-    IMAGE_VERSION, INDEX_LIMIT, LABEL_LENGTH, MEASUREMENT_KIND, MEASUREMENTS_LIMIT, TYPE_LIMIT,
-    WRONG_KIND, WRONG_SIZE, WRONG_VERSION,
+    CHAIN_KIND, HEAD_LENGTH, IDENTITY_END, IDENTITY_KIND, IMAGE_LIMIT, IMAGE_VERSION, INDEX_LIMIT,
+    LABEL_LENGTH, MEASUREMENT_KIND, MEASUREMENTS_LIMIT, TYPE_LIMIT,
 };
-use image::{Identity, Image, Index, Seen, Verdict};
-use image_records::Held;
+use image::{Fault, Identity, Index, Seen};
 
-// Where the body of each slot's record starts (0: not filled), and that of the first measurement.
-#[derive(Drop)]
-struct Places {
-    bodies: [u16; 8],
-    first: u16,
+// A whole record: its kind, and where its body starts and ends.
+#[derive(Clone, Copy)]
+struct Frame {
+    kind: u8,
+    start: usize,
+    end: usize,
 }
 
-// What stands at a place of the image: a record with its body's place and length, the end, or no whole record.
-#[derive(Drop)]
-enum Frame {
-    Whole { kind: u8, start: usize, len: usize },
-    End,
-    Broken,
+impl Frame {
+    fn body(self, s: &[u8]) -> &[u8]
+        requires { (self.start ≤ self.end) × (self.end ≤ length s.now) }
+        ensures { result.now ≡ body_in s.now self }
+    {
+        &s[self.start..self.end]
+    }
 }
 
-// A record held against those before it; next is what is seen past a good one.
-#[derive(Drop)]
-enum Record {
-    Good {
-        kind: u8,
-        start: usize,
-        len: usize,
-        next: Seen,
-    },
-    End,
-    Refused(u8),
-}
-
-fn frame_at(s: &[u8], at: usize) -> Frame
-    ensures { result ≡ frame_at s.now at }
+// The record at a place of the image, None at its end.
+#[tactic(auto, using(wire::proofs::Picks::picks), unfolding(crate::specs::Steps::frame_at))]
+fn frame_at(s: &[u8], at: usize) -> Result<Option<Frame>, Fault>
+    ensures { told result ≡ frame_at s.now at }
 {
     if s.len() <= at {
-        return Frame::End;
+        return Ok(None);
     }
     let left = s.len() - at;
     if left < HEAD_LENGTH {
-        return Frame::Broken;
+        return Err(Fault::BrokenRecord);
     }
-    let len = wire::get_u16be(s, at) as usize;
+    let len = usize::from(wire::get_u16be(s, at));
     if left - HEAD_LENGTH < len {
-        return Frame::Broken;
+        return Err(Fault::BrokenRecord);
     }
-    Frame::Whole {
+    let start = at + HEAD_LENGTH;
+    Ok(Some(Frame {
         kind: s[at + 2],
-        start: at + HEAD_LENGTH,
-        len: len,
-    }
+        start,
+        end: start + len,
+    }))
+}
+
+// A good record, and what is seen past it.
+#[derive(Clone, Copy)]
+struct Record {
+    frame: Frame,
+    next: Seen,
 }
 
 // The record at a place, held against those before it.
-fn read_record(s: &[u8], at: usize, w: Seen) -> Record
-    ensures { result ≡ record_of s.now w (frame_at s.now at) }
+#[tactic(auto, using(wire::proofs::Picks::picks), unfolding(crate::specs::Steps::record_of, crate::specs::Steps::held_record, image::specs::Reading::unless))]
+fn read_record(s: &[u8], at: usize, w: Seen) -> Result<Option<Record>, Fault>
+    ensures { told result ≡ record_of s.now w (frame_at s.now at) }
 {
-    let f = frame_at(s, at);
-    let Frame::Whole { kind, start, len } = f else {
-        let Frame::Broken = f else {
-            let missing = image_records::end_fault(w);
-            if missing != 0 {
-                return Record::Refused(missing);
-            }
-            return Record::End;
-        };
-        return Record::Refused(BROKEN_RECORD);
+    let Some(frame) = frame_at(s, at)? else {
+        image_records::check_end(w)?;
+        return Ok(None);
     };
-    let held = image_records::hold(w, kind, &s[start..start + len]);
-    match held {
-        Held::Good(next) => Record::Good {
-            kind,
-            start,
-            len,
-            next,
-        },
-        Held::Fault(number) => Record::Refused(number),
-    }
-}
-
-fn refused(number: u8) -> Image
-    ensures { result ≡ refused_by number }
-{
-    Image {
-        verdict: Verdict::Refused(number),
-        index: Index {
-            identity: Identity {
-                exponent: 0,
-                hash: 0,
-                signature: 0,
-            },
-            chains: 0,
-            measurements: 0,
-            places: [0; 8],
-            first: 0,
-        },
-    }
-}
-
-fn accepted(identity: Identity, w: Seen, p: Places) -> Image
-    ensures { result ≡ accepted_at (index_from identity w p) }
-{
-    let bodies = p.bodies;
-    Image {
-        verdict: Verdict::Accepted,
-        index: Index {
-            identity: identity,
-            chains: w.chains,
-            measurements: w.measurements,
-            places: bodies,
-            first: p.first,
-        },
-    }
+    let next = image_records::hold(w, frame.kind, frame.body(s))?;
+    Ok(Some(Record { frame, next }))
 }
 
 // Keeps where a chain's body starts. In place: an array that is made anew for each record is copied for each, and the copy waits for
 // the entry written before it.
+#[tactic(auto, using(wire::proofs::Picks::picks))]
 fn place_chain(bodies: &mut [u16; 8], kind: u8, slot: u8, start: usize)
     requires { (start ≤ image_limit) × (kind ≡ chain_kind → slot ≤ slot_limit) }
     ensures { bodies.new ≡ bodies_after bodies.old kind slot start }
 {
     if kind == CHAIN_KIND {
-        let k = wire::wide(slot);
-        bodies[k] = start as u16;
+        bodies[usize::from(slot)] = start as u16;
     }
 }
 
 // Where the first measurement's body starts: a later one does not move it.
+#[tactic(auto, using(wire::proofs::Picks::picks))]
 fn first_after(first: u16, w: Seen, kind: u8, start: usize) -> u16
     requires { start ≤ image_limit }
     ensures { result ≡ first_after first w kind start }
 {
-    if kind == MEASUREMENT_KIND {
-        if w.measurements == 0 {
-            return start as u16;
-        }
+    if kind == MEASUREMENT_KIND && w.measurements == 0 {
+        start as u16
+    } else {
+        first
     }
-    first
-}
-
-// Behind a run of good measurement records: the place, how many measurements there are up to it, and the index of the last.
-#[derive(Drop)]
-struct Run {
-    at: usize,
-    measurements: u8,
-    index: u8,
 }
 
 // Length, kind and the body's first byte of the record at a place, as one number.
@@ -166,126 +107,103 @@ fn head_at(s: &[u8], at: usize) -> usize
     requires { at + head_length < length s.now }
     ensures { Head s.now at result }
 {
-    wire::wide(s[at]) * 16777216
-        + wire::wide(s[at + 1]) * 65536
-        + wire::wide(s[at + 2]) * 256
-        + wire::wide(s[at + HEAD_LENGTH])
-}
-
-fn least(a: usize, b: usize) -> usize
-    ensures { (result ≤ a) × (result ≤ b) }
-{
-    if a < b { a } else { b }
+    u32::from_be_bytes([s[at], s[at + 1], s[at + 2], s[at + HEAD_LENGTH]]) as usize
 }
 
 // Good measurement records that stand one behind the other, from a place behind a good one on. They are all of one length, and their
 // heads, index included, rise from one to the next. Where the run ends, the plain step says what stands there.
-fn run_from(s: &[u8], from: usize, w: Seen) -> Run
+fn run_from(s: &[u8], from: usize, w: Seen) -> (usize, Seen)
     requires { (from ≤ length s.now) × ((length s.now ≤ image_limit) × Measuring w) }
-    ensures { Running s.now from w result.at (measured w result.measurements result.index) }
+    ensures { Run s.now from w result.0 result.1 }
 {
-    let size = wire::wide(w.size);
+    let size = usize::from(w.size);
     let stride = HEAD_LENGTH + (LABEL_LENGTH + size);
     // The head of such a record, its index left off.
-    let base = (LABEL_LENGTH + size) * 65536 + wire::wide(MEASUREMENT_KIND) * 256;
-    let room = wire::wide(MEASUREMENTS_LIMIT - w.measurements) * stride;
-    let end = least(s.len(), from + room);
-    let mut at: usize = from;
-    let mut n: u8 = w.measurements;
-    let mut last = base + wire::wide(w.index);
+    let base = (LABEL_LENGTH + size) * 65536 + usize::from(MEASUREMENT_KIND) * 256;
+    let room = usize::from(MEASUREMENTS_LIMIT - w.measurements) * stride;
+    let end = s.len().min(from + room);
+    let mut at = from;
+    let mut n = w.measurements;
+    let mut last = base + usize::from(w.index);
     while at + stride <= end {
         let head = head_at(s, at);
-        if head <= last {
-            break;
-        }
-        if base + wire::wide(INDEX_LIMIT) < head {
+        if head <= last || base + usize::from(INDEX_LIMIT) < head {
             break;
         }
         if TYPE_LIMIT < s[at + HEAD_LENGTH + 1] {
             break;
         }
         last = head;
-        n = n + 1;
-        at = at + stride;
+        n += 1;
+        at += stride;
     }
-    Run {
-        at,
+    let seen = Seen {
         measurements: n,
         index: (last - base) as u8,
-    }
+        ..w
+    };
+    (at, seen)
 }
 
 // The records behind the identity, one after the other; measurements behind the first by runs.
-fn walk(s: &[u8], identity: Identity) -> Image
+fn walk(s: &[u8], identity: Identity) -> Result<Index, Fault>
     requires { (length s.now ≤ image_limit) × (identity_fault (identity_body identity) ≡ 0) }
-    ensures { result ≡ answer_of (read_on (identified identity) (frames_at s.now identity_end)) }
+    ensures { told result ≡ answer_of (read_on (identified identity) (frames_at s.now identity_end)) }
 {
     let mut at: usize = IDENTITY_END;
     let mut w = image_records::seen_first(identity);
     let mut bodies: [u16; 8] = [0; 8];
     let mut first: u16 = 0;
     loop {
-        let r = read_record(s, at, w);
-        let Record::Good {
-            kind,
-            start,
-            len,
-            next,
-        } = r
-        else {
-            let Record::Refused(number) = r else {
-                break accepted(identity, w, Places { bodies, first });
-            };
-            break refused(number);
+        let read = read_record(s, at, w);
+        let Ok(found) = read else {
+            break Err(read.unwrap_err());
         };
-        place_chain(&mut bodies, kind, next.slot, start);
-        first = first_after(first, w, kind, start);
+        let Some(Record { frame, next }) = found else {
+            break Ok(Index {
+                identity,
+                chains: w.chains,
+                measurements: w.measurements,
+                places: bodies,
+                first,
+            });
+        };
+        place_chain(&mut bodies, frame.kind, next.slot, frame.start);
+        first = first_after(first, w, frame.kind, frame.start);
         w = next;
-        at = start + len;
-        if kind == MEASUREMENT_KIND {
-            let run = run_from(s, at, w);
-            at = run.at;
-            w.measurements = run.measurements;
-            w.index = run.index;
+        at = frame.end;
+        if frame.kind == MEASUREMENT_KIND {
+            (at, w) = run_from(s, at, w);
         }
     }
 }
 
 // The identity, and the records behind it.
-fn read_records(s: &[u8]) -> Image
+fn read_records(s: &[u8]) -> Result<Index, Fault>
     requires { length s.now ≤ image_limit }
-    ensures { result ≡ answer_of (read_all (frames_at s.now 1)) }
+    ensures { told result ≡ answer_of (read_all (frames_at s.now 1)) }
 {
-    let f = frame_at(s, 1);
-    let Frame::Whole { kind, start, len } = f else {
-        let Frame::Broken = f else {
-            return refused(WRONG_KIND);
-        };
-        return refused(BROKEN_RECORD);
+    let Some(frame) = frame_at(s, 1)? else {
+        return Err(Fault::WrongKind);
     };
-    if kind != IDENTITY_KIND {
-        return refused(WRONG_KIND);
+    if frame.kind != IDENTITY_KIND {
+        return Err(Fault::WrongKind);
     }
-    let body = wire::part_of(s, start, len);
-    let fault = image_records::identity_fault(body);
-    if fault != 0 {
-        return refused(fault);
-    }
+    let body = frame.body(s);
+    image_records::check_identity(body)?;
     walk(s, image_records::identity_in(body))
 }
 
-// What the image holds, as an index into it, or the number of its first fault.
-pub fn read_image(s: &[u8]) -> Image
-    ensures { result ≡ answer_of (reading s.now) }
+// What the image holds, as an index into it, or its first fault.
+#[tactic(auto, using(crate::proofs::First::readings), unfolding(image::specs::Reading::reading, image::specs::Index::answer_of))]
+pub fn read_image(s: &[u8]) -> Result<Index, Fault>
+    ensures { told result ≡ answer_of (reading s.now) }
 {
-    if s.len() == 0 {
-        return refused(WRONG_SIZE);
-    }
-    if IMAGE_LIMIT < s.len() {
-        return refused(WRONG_SIZE);
+    if s.is_empty() || IMAGE_LIMIT < s.len() {
+        return Err(Fault::WrongSize);
     }
     if s[0] != IMAGE_VERSION {
-        return refused(WRONG_VERSION);
+        return Err(Fault::WrongVersion);
     }
     read_records(s)
 }

@@ -9,7 +9,7 @@ use Rattle.image.specs.Sizes.{digest_size}
 use Rattle.image.specs.Contents.{record_bytes}
 use Rattle.image.specs.Reading.{Result, number, found, unless, identity_fault, slot_wrong, chain_fault, measurement_fault, summary_fault}
 use Rattle.image.specs.Reading.{record_fault, end_fault, extended, read_on, read_all}
-use Rattle.image_writer.specs.Writing.{Record, records_in, joined, sized, writing, lent}
+use Rattle.image_writer.specs.Writing.{Record, joined, sized, writing, lent}
 
 abbrev a : ℕ → List ℕ → Record
 a kind body = record { kind = kind; body = body }
@@ -71,10 +71,3 @@ faults : map (λ (x : Case). lent x.room (writing x.first x.records)) cases ≡ 
 unfolding digest_size pick unless identity_fault slot_wrong chain_fault measurement_fault summary_fault record_fault end_fault extended
     read_on read_all record_bytes joined sized writing lent
 faults = refl
-
--- a body is as many of the bytes that are left as its length says, 0 where there is no length, fewer where the bytes end sooner
-slices :
-    records_in (1 ∷ 2 ∷ []) (2 ∷ 3 ∷ 9 ∷ []) (10 ∷ 11 ∷ 12 ∷ 13 ∷ 14 ∷ 15 ∷ [])
-    ++ records_in (3 ∷ 4 ∷ []) (2 ∷ []) (20 ∷ [])
-    ≡ a 1 (10 ∷ 11 ∷ []) ∷ a 2 (12 ∷ 13 ∷ 14 ∷ []) ∷ a 3 (20 ∷ []) ∷ a 4 [] ∷ []
-slices = refl

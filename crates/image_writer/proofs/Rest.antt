@@ -1,82 +1,74 @@
--- The records of a call, taken one by one off its slices: at each turn the rest is the record that stands there and the rest behind it.
--- Assumes nothing.
-use mathlib.Core.Path.{◌≡◌, refl, sym, ap, ◌∙◌}
-use mathlib.Core.List.{List, [], ◌∷◌}
-use Prim.Native.Nat.{ℕ, zero, suc, ◌+◌, ◌≤◌, ◌<◌}
+-- A turn of the writing puts the record that stands there; what is left to put is the rest behind it. Assumes nothing.
+use mathlib.Core.Path.{◌≡◌, sym, ap, ◌∙◌}
+use mathlib.Core.List.{List, ◌∷◌}
+use Prim.Native.Nat.{ℕ, ◌+◌, ◌<◌, ◌≤◌}
 use native.Mathlib.Omega.{arith}
-use native.Mathlib.Nat.{add-zero}
 use native.Mathlib.Numerals.{add-one}
-use lib.ListN.{length, get_or, take, drop, length-append, length-drop, length-take, drop_of_length-le}
-use lib.Seq.{drop-cons, drop-drop, get_or-drop}
-use Rattle.wire.specs.Bytes.{part, splice}
+use lib.ListN.{length, get_or, drop, length-append, drop_of_length-le}
+use lib.Seq.{drop-cons}
+use Rattle.std.specs.Prelude.{Ok, Err, Result as Answer}
+use Rattle.std.specs.Result.{IsErrAnd}
+use Rattle.wire.specs.Bytes.{splice}
 use Rattle.wire.proofs.Laws.{splice-length, splice-then}
 use Rattle.image.specs.Limits.{head_length}
 use Rattle.image.specs.Contents.{record_bytes}
+use Rattle.image.specs.Fault.{number_of, told}
+use Rattle.image.specs.Reading.{Result, number, found}
+use Rattle.image.specs.declared.Fault.{Fault}
 use Rattle.image.proofs.Framed.{record_length}
-use Rattle.image_writer.specs.Writing.{Record, records_in, joined}
+use Rattle.image_writer.specs.Writing.{Record, record_in, records_in, joined}
 use Rattle.image_writer.specs.Draft.{added, added_all}
-use Rattle.image_writer.specs.declared.Draft.{Draft}
+use Rattle.image_writer.proofs.Drafts.{fault_stays}
+use Rattle.image_writer.specs.declared.drafting.Draft.{Draft}
+use Rattle.image_writer.specs.declared.Record.{Record as Lent}
 
--- the records from the i-th on, whose bodies start at a place
-abbrev pub rest_at : List ℕ → List ℕ → List ℕ → ℕ → ℕ → List Record
-rest_at kinds lengths bodies at i = records_in (drop i kinds) (drop i lengths) (drop at bodies)
+pub rest_next : (rs : List Lent) (i : ℕ) (d : Lent) → i < length rs → records_in (drop i rs) ≡ record_in (get_or rs i d) ∷ records_in (drop (i + 1) rs)
+rest_next rs i d h = rw (drop-cons rs i d h, add-one i)
 
--- what is taken off the front leaves what stands behind it
-drop-taken : (n : ℕ) (l : List ℕ) → drop n l ≡ drop (length (take n l)) l
-drop-taken zero l = refl
-drop-taken (suc n) [] = refl
-drop-taken (suc n) (x ∷ l) = drop-taken n l
-
-behind : (n at : ℕ) (b : List ℕ) → drop n (drop at b) ≡ drop (at + length (part b at n)) b
-behind n at b = drop-taken n (drop at b) ∙ drop-drop (length (part b at n)) at b
-
--- no record is left past the last kind
-pub rest-none : (kinds lengths bodies : List ℕ) (at i : ℕ) → length kinds ≤ i → rest_at kinds lengths bodies at i ≡ []
-rest-none kinds lengths bodies at i h = rw (drop_of_length-le kinds h)
-
--- a turn of the writing: what the rest of the records makes of the buffer is what all of them make of it as it was, and the place is known
-pub record Putting (out₀ kinds lengths bodies out : List ℕ) (end at i : ℕ) : Type 0 where
-  pub place : at ≤ length bodies
-  pub put : splice out end (joined (rest_at kinds lengths bodies at i)) ≡ splice out₀ 1 (joined (records_in kinds lengths bodies))
-  pub ends : end + length (joined (rest_at kinds lengths bodies at i)) ≡ 1 + length (joined (records_in kinds lengths bodies))
+-- what the rest of the records makes of the buffer is what all of them make of it as it was, and the place is known
+pub record Putting (out₀ : List ℕ) (rs : List Record) (out : List ℕ) (end : ℕ) (rest : List Record) : Type 0 where
+  pub put : splice out end (joined rest) ≡ splice out₀ 1 (joined rs)
+  pub ends : end + length (joined rest) ≡ 1 + length (joined rs)
   pub same : length out ≡ length out₀
 
--- a turn, at a record with the body b
-module _ (kinds lengths bodies : List ℕ) (at i : ℕ) (b : List ℕ) (e : b ≡ part bodies at (get_or lengths i 0)) where
-  pub body-within : at ≤ length bodies → at + length b ≤ length bodies
-  body-within h = omega (arith, ap length e, length-take (get_or lengths i 0) (drop at bodies), length-drop at bodies)
+pub putting_next : (out₀ : List ℕ) (rs : List Record) (out : List ℕ) (end : ℕ) (r : Record) (rest : List Record) (out' : List ℕ)
+    → Putting out₀ rs out end (r ∷ rest) → out' ≡ splice out end (record_bytes r.kind r.body)
+    → Putting out₀ rs out' (end + (head_length + length r.body)) rest
+unfolding joined
+putting_next out₀ rs out end r rest out' q p =
+    let x = record_bytes r.kind r.body in
+    let n = record_length r.kind r.body in
+    record {
+      put = ap (λ (o : List ℕ). splice o (end + (head_length + length r.body)) (joined rest)) p
+          ∙ splice-then out end x (joined rest) (head_length + length r.body) n
+          ∙ q.put;
+      ends = omega (arith, q.ends, length-append x (joined rest));
+      same = ap length p ∙ splice-length out end x ∙ q.same;
+    }
 
-  rest-next : i < length kinds → rest_at kinds lengths bodies at i ≡ record { kind = get_or kinds i 0; body = b } ∷ rest_at kinds lengths bodies (at + length b) (i + 1)
-  rest-next h = rw (drop-cons kinds i 0 h, get_or-drop i lengths 0 0, add-zero i, drop-drop 1 i lengths, behind (get_or lengths i 0) at bodies, add-one i, e)
+pub putting_at : (out₀ : List ℕ) (rs : List Lent) (out : List ℕ) (end i : ℕ) (d : Lent) (out' : List ℕ)
+    → Putting out₀ (records_in rs) out end (records_in (drop i rs)) → i < length rs
+    → out' ≡ splice out end (record_bytes (get_or rs i d).kind (get_or rs i d).body.now)
+    → Putting out₀ (records_in rs) out' (end + (head_length + length (get_or rs i d).body.now)) (records_in (drop (i + 1) rs))
+putting_at out₀ rs out end i d out' q h p =
+    putting_next out₀ (records_in rs) out end (record_in (get_or rs i d)) (records_in (drop (i + 1) rs)) out' (rw (rest_next rs i d h) at q) p
 
-  pub added_next : (d d' : Draft) → d' ≡ added d (get_or kinds i 0) b → i < length kinds
-      → added_all d' (rest_at kinds lengths bodies (at + length b) (i + 1)) ≡ added_all d (rest_at kinds lengths bodies at i)
-  added_next d d' p h = ap (λ (x : Draft). added_all x (rest_at kinds lengths bodies (at + length b) (i + 1))) p ∙ sym (ap (added_all d) (rest-next h))
+-- past the last record nothing is left
+pub putting_done : (out₀ : List ℕ) (rs : List Lent) (out : List ℕ) (end i : ℕ)
+    → Putting out₀ (records_in rs) out end (records_in (drop i rs)) → length rs ≤ i → out ≡ splice out₀ 1 (joined (records_in rs))
+unfolding joined splice
+putting_done out₀ rs out end i q h =
+    let none = drop_of_length-le rs h in
+    rw none at q.put
 
-  put_next : (out out' : List ℕ) (end : ℕ) → out' ≡ splice out end (record_bytes (get_or kinds i 0) b) → i < length kinds
-      → splice out' (end + (head_length + length b)) (joined (rest_at kinds lengths bodies (at + length b) (i + 1))) ≡ splice out end (joined (rest_at kinds lengths bodies at i))
-  unfolding joined
-  put_next out out' end p h =
-      let r = joined (rest_at kinds lengths bodies (at + length b) (i + 1)) in
-      let x = record_bytes (get_or kinds i 0) b in
-      ap (λ (o : List ℕ). splice o (end + (head_length + length b)) r) p
-      ∙ splice-then out end x r (head_length + length b) (record_length (get_or kinds i 0) b)
-      ∙ sym (ap (λ (rs : List Record). splice out end (joined rs)) (rest-next h))
-
-  length-next : i < length kinds → length (joined (rest_at kinds lengths bodies at i)) ≡ head_length + length b + length (joined (rest_at kinds lengths bodies (at + length b) (i + 1)))
-  unfolding joined
-  length-next h =
-      let r = joined (rest_at kinds lengths bodies (at + length b) (i + 1)) in
-      let x = record_bytes (get_or kinds i 0) b in
-      ap (λ (rs : List Record). length (joined rs)) (rest-next h) ∙ length-append x r ∙ ap (λ (n : ℕ). n + length r) (record_length (get_or kinds i 0) b)
-
-  pub putting_next : (out₀ out out' : List ℕ) (end : ℕ) → Putting out₀ kinds lengths bodies out end at i → i < length kinds → out' ≡ splice out end (record_bytes (get_or kinds i 0) b)
-      → Putting out₀ kinds lengths bodies out' (end + (head_length + length b)) (at + length b) (i + 1)
-  putting_next out₀ out out' end q h p =
-      let n = length-next h in
-      record {
-        place = body-within q.place;
-        put = put_next out out' end p h ∙ q.put;
-        ends = omega (arith, q.ends);
-        same = ap length p ∙ splice-length out end (record_bytes (get_or kinds i 0) b) ∙ q.same;
-      }
+-- a fault of the record that stands there stays
+pub fault_at : (d : Draft) (rs : List Lent) (i : ℕ) (r : Lent) (a : Answer Draft Fault) (x : Fault) (all : Result Draft)
+    → IsErrAnd a (λ (e : Fault). e ≡ x) → number (number_of x) ≡ added d (record_in (get_or rs i r)) → i < length rs
+    → added_all (found d) (records_in (drop i rs)) ≡ all → told a ≡ all
+fault_at d rs i r (Ok y) x all g e h p = absurd g
+fault_at d rs i r (Err y) x all g e h p =
+    ap (λ (z : Fault). number (number_of z)) g
+    ∙ sym (fault_stays (number_of x) (records_in (drop (i + 1) rs)))
+    ∙ ap (λ (z : Result Draft). added_all z (records_in (drop (i + 1) rs))) e
+    ∙ sym (ap (added_all (found d)) (rest_next rs i r h))
+    ∙ p

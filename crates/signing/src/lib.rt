@@ -5,39 +5,47 @@ ghost use Rattle.std.specs.Prelude.{◌≡◌, List, ◌++◌, ℕ, length};
 ghost use Rattle.wire.specs.Bytes.{splice};
 ghost use Rattle.image.specs.Reading.{reading};
 ghost use Rattle.rules.specs.Facts.{facts_at};
+ghost use Rattle.rules.specs.Finish.{Finish};
 ghost use Rattle.rules.specs.Signing.{spdm_text, prefix_of, finish_of, finish_by};
 ghost use Rattle.rules.specs.Parts.{kept_by_finishing, kept_used};
 ghost use Rattle.rules.specs.Box.{Lent, lengths_of, signed_first, signed_second, emptied_state, Finished};
+ghost use Rattle.signing.specs.Told.{finish_told};
 
-use image::{Index, Verdict};
+use image::Index;
 use rules::limits::{
     A_START, AWAITS_CHALLENGE, AWAITS_MEASUREMENTS, AWAITS_NOTHING, B_START, ERROR_CODE,
-    HEADER_LENGTH, M_START, MESSAGE_LIMIT, NOTHING_AWAITED, SHORT_ANSWER, SHORT_TRANSCRIPT,
-    TRANSCRIPT_LENGTH, UNSPECIFIED, VERSION_11, WRONG_SIGNATURE, WRONG_STATE,
+    HEADER_LENGTH, M_START, MESSAGE_LIMIT, TRANSCRIPT_LENGTH, UNSPECIFIED, VERSION_11,
 };
-use rules::{Finish, Lengths, Outcome, Reply, State, Used};
+use rules::{HostError, Lengths, Outcome, State, Used};
+
+// Where the context stands in a prefix, behind the four texts.
+const CONTEXT_START: usize = 64;
 
 // The prefix that is signed before the hash, for the awaited signature; nothing under 1.1, or where none is awaited.
 pub fn write_prefix(s: State, out: &mut [u8])
     ensures { out.new ≡ splice out.old 0 (prefix_of s.negotiated s.awaited.whose) }
 {
-    let n = s.negotiated;
-    let w = s.awaited;
-    if state::version_of(n) == VERSION_11 {
+    if state::version_of(s.negotiated) == VERSION_11 {
         return;
     }
-    if w.whose == AWAITS_CHALLENGE {
-        write_texts(out);
-        wire::copy_into(out, 64, b"\x00\x00\x00\x00responder-challenge_auth signing");
-        return;
-    }
-    if w.whose == AWAITS_MEASUREMENTS {
-        write_texts(out);
-        wire::copy_into(
-            out,
-            64,
-            b"\x00\x00\x00\x00\x00\x00responder-measurements signing",
-        );
+    match s.awaited.whose {
+        AWAITS_CHALLENGE => {
+            write_texts(out);
+            wire::copy_into(
+                out,
+                CONTEXT_START,
+                b"\x00\x00\x00\x00responder-challenge_auth signing",
+            );
+        }
+        AWAITS_MEASUREMENTS => {
+            write_texts(out);
+            wire::copy_into(
+                out,
+                CONTEXT_START,
+                b"\x00\x00\x00\x00\x00\x00responder-measurements signing",
+            );
+        }
+        _ => {}
     }
 }
 
@@ -53,67 +61,70 @@ fn write_texts(out: &mut [u8])
 }
 
 // The first part of the transcript to hash: A, as a part of the lent buffer; under 1.1 nothing before M.
+#[tactic(auto, using(wire::proofs::Picks::picks), unfolding(rules::specs::Box::signed_first))]
 pub fn first_part(s: State, transcript: &[u8]) -> &[u8]
     ensures { result.now ≡ signed_first s transcript.now }
 {
-    let n = s.negotiated;
-    let u = s.used;
-    let w = s.awaited;
-    let part = wire::part_of(transcript, A_START, u.a as usize);
-    if w.whose == AWAITS_CHALLENGE {
-        return part;
+    let part = wire::part_of(transcript, A_START, s.used.a as usize);
+    match s.awaited.whose {
+        AWAITS_CHALLENGE => part,
+        AWAITS_MEASUREMENTS if state::version_of(s.negotiated) != VERSION_11 => part,
+        _ => &[],
     }
-    if w.whose != AWAITS_MEASUREMENTS {
-        return wire::part_of(part, 0, 0);
-    }
-    if state::version_of(n) == VERSION_11 {
-        return wire::part_of(part, 0, 0);
-    }
-    part
 }
 
 // The second part: B, or M.
+#[tactic(auto, using(wire::proofs::Picks::picks), unfolding(rules::specs::Box::signed_second))]
 pub fn second_part(s: State, transcript: &[u8]) -> &[u8]
     ensures { result.now ≡ signed_second s transcript.now }
 {
-    let u = s.used;
-    let w = s.awaited;
-    if w.whose == AWAITS_CHALLENGE {
-        return wire::part_of(transcript, B_START, u.b as usize);
+    match s.awaited.whose {
+        AWAITS_CHALLENGE => wire::part_of(transcript, B_START, s.used.b as usize),
+        AWAITS_MEASUREMENTS => wire::part_of(transcript, M_START, s.used.m as usize),
+        _ => &[],
     }
-    if w.whose == AWAITS_MEASUREMENTS {
-        return wire::part_of(transcript, M_START, u.m as usize);
-    }
-    wire::part_of(transcript, 0, 0)
 }
 
-fn decide_finish(ix: Index, s: State, lent: Lengths, ok: bool, size: usize) -> Finish
-    ensures { (b : List ℕ) → result ≡ finish_of (facts_at b ix) s lent ok size }
+// How an awaited answer ends: with its signature, or as an ERROR where the chip failed.
+#[derive(Clone, Copy)]
+enum Ending {
+    Signed,
+    Failed,
+}
+
+#[tactic(auto, using(wire::proofs::Picks::picks), unfolding(rules::specs::Signing::finish_of))]
+fn decide_finish(
+    ix: Index,
+    s: State,
+    lent: Lengths,
+    ok: bool,
+    size: usize,
+) -> Result<Ending, HostError>
+    ensures { (b : List ℕ) → finish_told result ≡ finish_of (facts_at b ix) s lent ok size }
 {
-    let w = s.awaited;
-    let id = ix.identity;
     if lent.answer < MESSAGE_LIMIT {
-        return Finish::Number(SHORT_ANSWER);
+        return Err(HostError::ShortAnswer);
     }
     if lent.transcript < TRANSCRIPT_LENGTH {
-        return Finish::Number(SHORT_TRANSCRIPT);
+        return Err(HostError::ShortTranscript);
     }
-    if !state::in_bounds(ix.measurements, id.signature, s) {
-        return Finish::Number(WRONG_STATE);
+    if !state::in_bounds(ix.measurements, ix.identity.signature, s) {
+        return Err(HostError::WrongState);
     }
-    if w.whose == AWAITS_NOTHING {
-        return Finish::Number(NOTHING_AWAITED);
+    if s.awaited.whose == AWAITS_NOTHING {
+        return Err(HostError::NothingAwaited);
     }
     if !ok {
-        return Finish::Failed;
+        return Ok(Ending::Failed);
     }
-    if size != image::signature_size(id.signature) {
-        return Finish::Number(WRONG_SIGNATURE);
+    if size != image::signature_size(ix.identity.signature) {
+        return Err(HostError::WrongSignature);
     }
-    Finish::Signed
+    Ok(Ending::Signed)
 }
 
 // What a finishing keeps of the parts, by whose signature it was.
+#[tactic(auto, unfolding(wire::specs::Pick::pick))]
 fn kept(whose: u32, u: Used) -> Used
     ensures { result ≡ kept_used (kept_by_finishing whose) u }
 {
@@ -127,12 +138,11 @@ fn kept(whose: u32, u: Used) -> Used
 fn emptied(s: State) -> State
     ensures { result ≡ emptied_state s }
 {
-    let u = s.used;
-    let w = s.awaited;
-    let used = kept(w.whose, u);
-    let fresh = state::fresh();
-    let awaited = fresh.awaited;
-    State { used, awaited, ..s }
+    State {
+        used: kept(s.awaited.whose, s.used),
+        awaited: state::fresh().awaited,
+        ..s
+    }
 }
 
 fn finish_answer(
@@ -147,27 +157,24 @@ fn finish_answer(
         let d : Finish = finish_of (facts_at b ix) s lent ok (length signature.now) in
         Finished d s answer.old answer.new signature.now result) }
 {
-    let d = decide_finish(ix, s, lent, ok, signature.len());
-    let n = s.negotiated;
-    let w = s.awaited;
-    match d {
-        Finish::Number(number) => Outcome {
-            reply: Reply::Number(number),
+    match decide_finish(ix, s, lent, ok, signature.len()) {
+        Err(error) => Outcome {
+            reply: Err(error),
             state: s,
         },
-        Finish::Signed => {
-            let length = w.length as usize;
+        Ok(Ending::Signed) => {
+            let length = s.awaited.length as usize;
             wire::copy_into(answer, length - signature.len(), signature);
             Outcome {
-                reply: Reply::Answer(length),
+                reply: Ok(length),
                 state: emptied(s),
             }
         }
-        Finish::Failed => {
-            let m = [state::version_of(n), ERROR_CODE, UNSPECIFIED, 0];
-            wire::copy_into(answer, 0, &m);
+        Ok(Ending::Failed) => {
+            let version = state::version_of(s.negotiated);
+            wire::copy_into(answer, 0, &[version, ERROR_CODE, UNSPECIFIED, 0]);
             Outcome {
-                reply: Reply::Answer(HEADER_LENGTH),
+                reply: Ok(HEADER_LENGTH),
                 state: emptied(s),
             }
         }
@@ -188,18 +195,15 @@ pub fn finish(
         let d : Finish = finish_by (reading image.now) s (lengths_of before) ok (length signature.now) in
         Finished d s answer.old answer.new signature.now result) }
 {
-    let read = image_reader::read_image(image);
-    let verdict = read.verdict;
-    let ix = read.index;
     let lent = Lengths {
         transcript: transcript.len(),
         answer: answer.len(),
     };
-    match verdict {
-        Verdict::Refused(number) => Outcome {
-            reply: Reply::Number(number as u32),
+    match image_reader::read_image(image) {
+        Err(fault) => Outcome {
+            reply: Err(fault.into()),
             state: s,
         },
-        Verdict::Accepted => finish_answer(ix, s, lent, answer, ok, signature),
+        Ok(index) => finish_answer(index, s, lent, answer, ok, signature),
     }
 }

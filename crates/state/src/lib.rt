@@ -18,7 +18,7 @@ use rules::limits::{
 };
 use rules::{Awaited, Negotiated, State, Used};
 
-// The state of a connection on which nothing was said yet.
+// The state of a connection on which nothing was said yet. No derived Default: the names say what each 0 means.
 pub fn fresh() -> State
     ensures { result ≡ freshState }
 {
@@ -37,177 +37,134 @@ pub fn fresh() -> State
     }
 }
 
+#[tactic(auto, unfolding(rules::specs::State::holds_only, wire::specs::Pick::pick))]
 fn holds_only(u: Used, n: u32) -> bool
     ensures { result ≡ holds_only u n }
 {
-    if u.a != n {
-        return false;
-    }
-    if u.b != 0 {
-        return false;
-    }
-    u.m == 0
+    u.a == n && u.b == 0 && u.m == 0
 }
 
 // What A holds in phase 2.
+#[tactic(auto, unfolding(wire::specs::Pick::pick))]
 fn capabilities_used(n: Negotiated) -> u32
     ensures { result ≡ capabilities_used (version_of n) }
 {
     if version_of(n) == VERSION_11 {
-        return CAPABILITIES_USED_11;
+        CAPABILITIES_USED_11
+    } else {
+        CAPABILITIES_USED_12
     }
-    CAPABILITIES_USED_12
 }
 
+#[tactic(auto, unfolding(rules::specs::State::phase_fits, wire::specs::Pick::pick))]
 fn phase_fits(n: Negotiated, u: Used) -> bool
     ensures { result ≡ phase_fits n u }
 {
-    if n.phase == FRESH_PHASE {
-        return holds_only(u, 0);
+    match n.phase {
+        FRESH_PHASE => holds_only(u, 0),
+        VERSION_PHASE => holds_only(u, VERSION_USED),
+        _ if n.peer < PEER_LEAST => false,
+        CAPABILITIES_PHASE => holds_only(u, capabilities_used(n)),
+        _ => true,
     }
-    if n.phase == VERSION_PHASE {
-        return holds_only(u, VERSION_USED);
-    }
-    if n.peer < PEER_LEAST {
-        return false;
-    }
-    if n.phase == CAPABILITIES_PHASE {
-        return holds_only(u, capabilities_used(n));
-    }
-    true
 }
 
+#[tactic(auto, unfolding(rules::specs::State::selection_fits, wire::specs::Pick::pick))]
 fn selection_fits(n: Negotiated) -> bool
     ensures { result ≡ selection_fits n }
 {
-    if n.selection == 0 {
-        return true;
-    }
-    if n.selection != 1 {
-        return false;
-    }
-    n.phase == ALGORITHMS_PHASE
+    n.selection == 0 || (n.selection == 1 && n.phase == ALGORITHMS_PHASE)
 }
 
+#[tactic(auto, unfolding(rules::specs::State::awaited_fits, wire::specs::Pick::pick))]
 fn awaited_fits(n: Negotiated, w: Awaited) -> bool
     ensures { result ≡ awaited_fits n w }
 {
-    if w.whose == AWAITS_NOTHING {
-        return true;
-    }
-    if AWAITS_MEASUREMENTS < w.whose {
-        return false;
-    }
-    if n.phase != ALGORITHMS_PHASE {
-        return false;
-    }
-    w.length as usize <= MESSAGE_LIMIT
+    w.whose == AWAITS_NOTHING
+        || (w.whose <= AWAITS_MEASUREMENTS
+            && n.phase == ALGORITHMS_PHASE
+            && w.length as usize <= MESSAGE_LIMIT)
 }
 
+#[tactic(auto, unfolding(rules::specs::State::edition_fits, wire::specs::Pick::pick))]
 fn edition_fits(n: Negotiated) -> bool
     ensures { result ≡ edition_fits n }
 {
     if version_of(n) == VERSION_10 {
-        return n.edition == NO_EDITION;
+        n.edition == NO_EDITION
+    } else if n.edition == u32::from(VERSION_11) {
+        n.peer == PEER_11
+    } else {
+        n.edition == u32::from(VERSION_12)
     }
-    if n.edition == VERSION_11 as u32 {
-        return n.peer == PEER_11;
-    }
-    n.edition == VERSION_12 as u32
 }
 
 // Whether a state that the host hands in lies within the bounds that need no image.
+#[tactic(auto, unfolding(rules::specs::State::own_bounds, wire::specs::Pick::pick))]
 pub fn own_bounds(s: State) -> bool
     ensures { result ≡ own_bounds s }
 {
     let n = s.negotiated;
     let u = s.used;
-    let w = s.awaited;
-    if ALGORITHMS_PHASE < n.phase {
-        return false;
-    }
-    if A_LIMIT < u.a {
-        return false;
-    }
-    if B_LIMIT < u.b {
-        return false;
-    }
-    if M_LIMIT < u.m {
-        return false;
-    }
-    if !phase_fits(n, u) {
-        return false;
-    }
-    if !selection_fits(n) {
-        return false;
-    }
-    if !awaited_fits(n, w) {
-        return false;
-    }
-    edition_fits(n)
+    n.phase <= ALGORITHMS_PHASE
+        && u.a <= A_LIMIT
+        && u.b <= B_LIMIT
+        && u.m <= M_LIMIT
+        && phase_fits(n, u)
+        && selection_fits(n)
+        && awaited_fits(n, s.awaited)
+        && edition_fits(n)
 }
 
+#[tactic(auto, unfolding(rules::specs::State::selection_held, wire::specs::Pick::pick))]
 fn selection_held(measurements: u8, n: Negotiated) -> bool
     ensures { (f : Facts) → f.measurements ≡ measurements → result ≡ selection_held f n }
 {
-    if n.selection == 0 {
-        return true;
-    }
-    0 < measurements
+    n.selection == 0 || 0 < measurements
 }
 
+#[tactic(auto, unfolding(rules::specs::State::awaited_long, wire::specs::Pick::pick))]
 fn awaited_long(signature: u8, w: Awaited) -> bool
     ensures { (f : Facts) → f.identity.signature ≡ signature → result ≡ awaited_long f w }
 {
-    if w.whose == AWAITS_NOTHING {
-        return true;
-    }
-    HEADER_LENGTH + image::signature_size(signature) <= w.length as usize
+    w.whose == AWAITS_NOTHING
+        || HEADER_LENGTH + image::signature_size(signature) <= w.length as usize
 }
 
 // Whether a state that the host hands in lies within its bounds, for an image with so many measurements and that signature number.
+#[tactic(auto, unfolding(rules::specs::State::in_bounds, wire::specs::Pick::pick))]
 pub fn in_bounds(measurements: u8, signature: u8, s: State) -> bool
     ensures { (f : Facts) → f.measurements ≡ measurements → f.identity.signature ≡ signature →
         result ≡ in_bounds f s }
 {
-    let n = s.negotiated;
-    let w = s.awaited;
-    if !own_bounds(s) {
-        return false;
-    }
-    if !selection_held(measurements, n) {
-        return false;
-    }
-    awaited_long(signature, w)
+    own_bounds(s)
+        && selection_held(measurements, s.negotiated)
+        && awaited_long(signature, s.awaited)
 }
 
 // What a refusal leaves, by its step and the request's code: a GET_MEASUREMENTS that is refused at step 7, 8 or 9 empties M.
+#[tactic(auto, unfolding(wire::specs::Pick::pick))]
 pub fn refused(s: State, step: u8, asked: u8) -> State
     ensures { result ≡ refused_state (kept_by_refusal step asked) s }
 {
-    if asked != GET_MEASUREMENTS {
-        return s;
+    if asked == GET_MEASUREMENTS && FIELDS_STEP <= step && step <= ROOM_STEP {
+        let used = Used { m: 0, ..s.used };
+        State { used, ..s }
+    } else {
+        s
     }
-    if step < FIELDS_STEP {
-        return s;
-    }
-    if ROOM_STEP < step {
-        return s;
-    }
-    let u = s.used;
-    let used = Used { m: 0, ..u };
-    State { used, ..s }
 }
 
 // The version byte of an answer, by what is negotiated with it.
+#[tactic(auto, unfolding(rules::specs::Header::version_of, wire::specs::Pick::pick))]
 pub fn version_of(n: Negotiated) -> u8
     ensures { result ≡ version_of n }
 {
     if n.phase < CAPABILITIES_PHASE {
-        return VERSION_10;
+        VERSION_10
+    } else if n.edition == u32::from(VERSION_11) {
+        VERSION_11
+    } else {
+        VERSION_12
     }
-    if n.edition == VERSION_11 as u32 {
-        return VERSION_11;
-    }
-    VERSION_12
 }

@@ -5,8 +5,8 @@ use Rattle.image.specs.Reading.{identified}
 use Rattle.image_reader.proofs.Turns.{Reached}
 use Rattle.image_reader.proofs.walk.Given as goal
 
-abbrev pub invariant-loop-kind : goal.invariant-loop-kind
-invariant-loop-kind l = Reached l.s (identified l.identity) l.at l.w (record { bodies = l.bodies; first = l.first })
+abbrev pub invariant-loop-found : goal.invariant-loop-found
+invariant-loop-found l = Reached l.s (identified l.identity) l.at l.w (record { bodies = l.bodies; first = l.first })
 
-abbrev pub decreases-loop-kind : goal.decreases-loop-kind
-decreases-loop-kind l = length l.s - l.at
+abbrev pub decreases-loop-found : goal.decreases-loop-found
+decreases-loop-found l = length l.s - l.at

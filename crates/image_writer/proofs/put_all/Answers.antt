@@ -1,29 +1,16 @@
 -- A turn puts the record that stands there, and the end of the image bounds each place. Assumes nothing.
-use Rattle.std.proofs.Common.{List, sym, ap, ◌∙◌, arith}
-use Rattle.wire.specs.Bytes.{part, splice}
-use Rattle.image_writer.specs.Writing.{Record, joined}
-use Rattle.image_writer.proofs.Rest.{rest-none, putting_next}
+use Rattle.std.proofs.Common.{arith}
+use Rattle.image_writer.proofs.Rest.{putting_at, putting_done}
 use Rattle.image_writer.proofs.put_all.Goals as goal
 
-pub overflow_add-end-in-loop-i : goal.overflow_add-end-in-loop-i
-overflow_add-end-in-loop-i c =
-    let l = c.loop-i in
-    let a = c.args in
-    let e = c.part_of-body.ensures ∙ ap (part a.bodies.now l.at) c.length_at.ensures in
-    let n = putting_next a.kinds.now a.lengths.now a.bodies.now l.at l.i _ e a.out.now l.out _ l.end l.invariant c.loop-i-test.true c.put_record.ensures in
-    omega (arith, n.ends, n.place, c.requires)
+pub overflow_add-end-in-loop-record : goal.overflow_add-end-in-loop-record
+overflow_add-end-in-loop-record c =
+    let l = c.loop-record in
+    let next = putting_at _ c.args.records.now _ _ l.record-index _ _ l.invariant c.loop-record-test.true c.put.ensures in
+    omega (arith, next.ends, c.requires)
 
-pub loop-i-preserved : goal.loop-i-preserved
-loop-i-preserved c =
-    let l = c.loop-i in
-    let a = c.args in
-    let e = c.part_of-body.ensures ∙ ap (part a.bodies.now l.at) c.length_at.ensures in
-    putting_next a.kinds.now a.lengths.now a.bodies.now l.at l.i _ e a.out.now l.out _ l.end l.invariant c.loop-i-test.true c.put_record.ensures
+pub loop-record-preserved : goal.loop-record-preserved
+loop-record-preserved c = putting_at _ _ _ _ c.loop-record.record-index _ _ c.loop-record.invariant c.loop-record-test.true c.put.ensures
 
 pub returns : goal.returns
-unfolding joined splice
-returns c =
-    let l = c.loop-i in
-    let a = c.args in
-    let none = rest-none a.kinds.now a.lengths.now a.bodies.now l.at l.i c.loop-i-test.false in
-    sym (ap (λ (rs : List Record). splice l.out l.end (joined rs)) none) ∙ l.invariant.put
+returns c = putting_done _ _ _ _ _ c.loop-record.invariant c.loop-record-test.false

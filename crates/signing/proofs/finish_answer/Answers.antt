@@ -1,12 +1,13 @@
 -- A signed answer is at least as long as its signature, as the state is within its bounds; each arm does what its decision says.
 -- Assumes nothing.
-use Rattle.std.proofs.Common.{◌≡◌, ◌≤◌, ◌∙◌, ℕ, Bool, [], refl, sym, subst, arith}
+use Rattle.std.proofs.Common.{Ok, ◌≡◌, ◌≤◌, ◌∙◌, ℕ, Bool, [], sym, ap, subst, arith}
 use Rattle.rules.specs.Facts.{Facts, facts_at}
 use Rattle.rules.specs.Signing.{finish_of}
 use Rattle.rules.specs.declared.State.{State}
 use Rattle.rules.specs.declared.Lengths.{Lengths}
 use Rattle.rules.specs.Finish as finish
 use Rattle.rules.proofs.Told.{FinishTold, finish-told}
+use Rattle.signing.specs.Told.{finish_told}
 use Rattle.signing.proofs.finish_answer.Goals as goal
 
 -- an answer that gets signed has room for its signature
@@ -17,4 +18,4 @@ signed_fits f s lent ok size e =
 
 pub overflow_sub-length : goal.overflow_sub-length
 overflow_sub-length c =
-    signed_fits (facts_at [] c.args.ix) c.args.s _ _ _ (sym (c.decide_finish-d.ensures []) ∙ c.in-Signed.is)
+    signed_fits (facts_at [] c.args.ix) c.args.s _ _ _ (sym (c.decide_finish.ensures []) ∙ ap finish_told (c.in-Ok-Signed.is ∙ ap Ok c.in-Ok-Signed.field-0-is))

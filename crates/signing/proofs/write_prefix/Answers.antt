@@ -1,5 +1,5 @@
 -- The second copy starts where the four texts end, so the two are one run of stores. Assumes nothing.
-use Rattle.std.proofs.Common.{◌≡◌, ◌∙◌, ◌++◌, ℕ, List, refl}
+use Rattle.std.proofs.Common.{◌≡◌, ◌∙◌, ◌++◌, ℕ, List, refl, arith}
 use borrow.Author.Tests.{ne_eqb}
 use Rattle.wire.specs.Pick.{pick}
 use Rattle.wire.specs.Bytes.{splice}
@@ -20,31 +20,26 @@ pub returns-then-version_of-eq-VERSION_11 : goal.returns-then-version_of-eq-VERS
 unfolding prefix_of pick splice
 returns-then-version_of-eq-VERSION_11 c = rw (← c.version_of.ensures, c.if-version_of-eq-VERSION_11.true)
 
-pub returns-then-w-eq-AWAITS_CHALLENGE : goal.returns-then-w-eq-AWAITS_CHALLENGE
+pub returns-in-1 : goal.returns-in-1
 unfolding prefix_of pick
-returns-then-w-eq-AWAITS_CHALLENGE c =
+returns-in-1 c =
     c.copy_into.ensures
-    ∙ rw (c.write_texts.ensures, ← c.version_of.ensures, ne_eqb _ _ c.if-version_of-eq-VERSION_11.false, c.if-w-eq-AWAITS_CHALLENGE.true)
+    ∙ rw (c.write_texts.ensures, ← c.version_of.ensures, ne_eqb _ _ c.if-version_of-eq-VERSION_11.false, c.in-1.is)
     (behind _ _)
 
-pub returns-then-w-eq-AWAITS_MEASUREMENTS : goal.returns-then-w-eq-AWAITS_MEASUREMENTS
+pub returns-in-2 : goal.returns-in-2
 unfolding prefix_of pick
-returns-then-w-eq-AWAITS_MEASUREMENTS c =
-    c.copy_into-then-w-eq-AWAITS_MEASUREMENTS.ensures
-    ∙ rw (
-      c.write_texts-then-w-eq-AWAITS_MEASUREMENTS.ensures,
-      ← c.version_of.ensures,
-      ne_eqb _ _ c.if-version_of-eq-VERSION_11.false,
-      c.if-w-eq-AWAITS_MEASUREMENTS.true,
-    )
+returns-in-2 c =
+    c.copy_into-in-2.ensures
+    ∙ rw (c.write_texts-in-2.ensures, ← c.version_of.ensures, ne_eqb _ _ c.if-version_of-eq-VERSION_11.false, c.in-2.is)
     (behind _ _)
 
-pub returns-else-w-eq-AWAITS_MEASUREMENTS : goal.returns-else-w-eq-AWAITS_MEASUREMENTS
+pub returns-in_default : goal.returns-in_default
 unfolding prefix_of pick splice
-returns-else-w-eq-AWAITS_MEASUREMENTS c =
+returns-in_default c =
     rw (← c.version_of.ensures)
     (simp (
       ne_eqb _ _ c.if-version_of-eq-VERSION_11.false,
-      ne_eqb _ _ c.if-w-eq-AWAITS_CHALLENGE.false,
-      ne_eqb _ _ c.if-w-eq-AWAITS_MEASUREMENTS.false,
+      ne_eqb c.args.s.awaited.whose 1 (λ e. omega arith),
+      ne_eqb c.args.s.awaited.whose 2 (λ e. omega arith),
     ))
