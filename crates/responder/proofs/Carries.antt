@@ -38,7 +38,6 @@ use Rattle.rules.specs.Decision as decision
 use Rattle.rules.specs.declared.Outcome.{Outcome}
 use Rattle.rules.specs.Reply as reply
 use Rattle.rules.proofs.Told.{Accepted}
-use Rattle.rules.specs.declared.Accepted.{Accepted as AcceptedRequest}
 use Rattle.rules.proofs.Ready.{whole_length_lem, added-length, answer-length, answer-most}
 use Rattle.responder.specs.Carried.{Measured, Carried}
 use Rattle.responder.proofs.RunLaws.{splice-on}

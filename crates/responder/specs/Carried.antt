@@ -48,4 +48,4 @@ pub record Carried (s : State) (a : Accepted) (r : List ℕ) (before after : Len
   pub answer : after.answer ≡ splice before.answer a.exchange.length (replicate a.exchange.signature 0)
   pub transcript : after.transcript
       ≡ splice before.transcript (place_for a.exchange.part (kept_by (kind_for a.message)) s.used)
-        (take a.exchange.layout r ++ take a.exchange.length after.answer)
+      (take a.exchange.layout r ++ take a.exchange.length after.answer)

@@ -8,8 +8,8 @@ ghost use Rattle.rules.specs.Box.{Lent};
 ghost use Rattle.rules.proofs.Told.{Fitting};
 ghost use Rattle.responder.specs.Carried.{Measured, added_to, awaited_by, Carried};
 
-use rules::limits::{A_START, AWAITS_NOTHING, B_START, M_START};
 use crate::zeros::write_zeros;
+use rules::limits::{A_START, AWAITS_NOTHING, B_START, M_START};
 use rules::{Accepted, Awaited, Exchange, Message, Outcome, Part, State, Used};
 
 // What an accepted request keeps of the parts: a GET_VERSION nothing, a GET_MEASUREMENTS not B, any other not M.

@@ -22,12 +22,7 @@ pub(crate) fn write_certificate(
     ensures { (c : Contents) → ReadAs image.now.bytes.now image.now.index c →
         answer.new ≡ splice answer.old 0 (certificate_bytes c n slot.0 offset portion remainder) }
 {
-    let head = [
-        state::version_of(n),
-        CERTIFICATE_CODE,
-        u8::from(slot),
-        0,
-    ];
+    let head = [state::version_of(n), CERTIFICATE_CODE, u8::from(slot), 0];
     wire::copy_into(answer, 0, &head);
     wire::put_le(answer, HEADER_LENGTH, 2, portion);
     wire::put_le(answer, HEADER_LENGTH + 2, 2, remainder);

@@ -21,15 +21,7 @@ fn write_block(answer: &mut [u8], at: usize, h: usize, body: &[u8])
     ensures { answer.new ≡ splice answer.old at (block_bytes h body.now) }
 {
     // H is at most 64: one byte of each size says it
-    let head = [
-        body[0],
-        1,
-        (3 + h) as u8,
-        0,
-        body[1],
-        h as u8,
-        0,
-    ];
+    let head = [body[0], 1, (3 + h) as u8, 0, body[1], h as u8, 0];
     wire::copy_into(answer, at, &head);
     wire::copy_into(answer, at + head.len(), &body[LABEL_LENGTH..]);
 }

@@ -41,7 +41,11 @@ pub(crate) fn write_message(
             portion,
             remainder,
         } => write_certificate(answer, image, n, slot, offset, portion, remainder),
-        Message::Challenge { slot, summary } => write_challenge(answer, image, nonce, n, slot, summary),
-        Message::Measurements { operation, signer } => write_measurements(answer, image, nonce, n, operation, signer),
+        Message::Challenge { slot, summary } => write_challenge(
+            answer, image, nonce, n, slot, summary,
+        ),
+        Message::Measurements { operation, signer } => write_measurements(
+            answer, image, nonce, n, operation, signer,
+        ),
     }
 }

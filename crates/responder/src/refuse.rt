@@ -17,7 +17,11 @@ pub(crate) fn refuse(s: State, answer: &mut [u8], request: &[u8], refused: Refus
 {
     let state = state::refused(s, refused.step, wire::byte_at(request, 1));
     let version = state::version_of(s.negotiated);
-    wire::copy_into(answer, 0, &[version, ERROR_CODE, refused.code, refused.extra]);
+    wire::copy_into(
+        answer,
+        0,
+        &[version, ERROR_CODE, refused.code, refused.extra],
+    );
     if refused.step != SIZE_STEP {
         return Outcome {
             reply: Ok(HEADER_LENGTH),

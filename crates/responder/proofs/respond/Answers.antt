@@ -7,16 +7,16 @@ use Rattle.image.proofs.Verdicts.{known, number_read}
 use Rattle.responder.proofs.respond.Goals as goal
 
 pub answer_request-requires : goal.answer_request-requires
-answer_request-requires c = known _ c.read_image-read.ensures c.in-Accepted.is
+answer_request-requires c = known _ c.read_image.ensures _ c.in-Ok.is
 
-pub returns-in-Refused : goal.returns-in-Refused
+pub returns-in-Err : goal.returns-in-Err
 unfolding effect_by
-returns-in-Refused c =
-    rw (number_read c.args.image.now c.read_image-read.ensures _ c.in-Refused.is)
+returns-in-Err c =
+    rw (number_read c.args.image.now c.read_image.ensures _ c.in-Err.is, c.into.ensures)
     (record { reply = refl; state = refl; answer = no_answer _; transcript = refl })
 
-pub returns-in-Accepted : goal.returns-in-Accepted
+pub returns-in-Ok : goal.returns-in-Ok
 unfolding effect_by
-returns-in-Accepted c =
-    let k = known c.args.image.now c.read_image-read.ensures c.in-Accepted.is in
+returns-in-Ok c =
+    let k = known c.args.image.now c.read_image.ensures _ c.in-Ok.is in
     rw k.same.read (c.answer_request.ensures k.held k.same)

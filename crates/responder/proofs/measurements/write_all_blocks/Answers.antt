@@ -1,5 +1,5 @@
 -- Each turn adds the next block, whose measurement is the contents' k-th. Assumes nothing.
-use Rattle.std.proofs.Common.{◌≡◌, refl, ap, ◌∙◌, rules, ℕ, List, ◌+◌, ◌*◌, ◌≤◌, arith, length}
+use Rattle.std.proofs.Common.{◌≡◌, refl, ap, ◌∙◌, ℕ, List, ◌+◌, ◌*◌, ◌≤◌, arith, length}
 use lib.Seq.{take_all}
 use Rattle.wire.specs.Bytes.{splice, Bytes}
 use Rattle.image.specs.Sizes.{digest_size, digest_most}
@@ -39,11 +39,11 @@ write_block-requires c =
 
 pub loop-k-preserved : goal.loop-k-preserved
 loop-k-preserved c = λ d r.
-      let a = c.args in
-      let y : Bytes a.image.now.bytes.now = c.args.image.now.octets in
-      let m : a.image.now.index.measurements ≡ length d.measurements = count_is r in
-      rw (c.write_block.ensures, c.loop-k.invariant d r, c.nth_measurement.ensures, nth_is y r c.loop-k.k, c.digest_size-h.ensures.0, size_is r)
-      (block-after a.answer.now a.at (digest_size d.identity.hash) d.measurements c.loop-k.k (valid y r).measurements (omega arith))
+    let a = c.args in
+    let y : Bytes a.image.now.bytes.now = c.args.image.now.octets in
+    let m : a.image.now.index.measurements ≡ length d.measurements = count_is r in
+    rw (c.write_block.ensures, c.loop-k.invariant d r, c.nth_measurement.ensures, nth_is y r c.loop-k.k, c.digest_size-h.ensures.0, size_is r)
+    (block-after a.answer.now a.at (digest_size d.identity.hash) d.measurements c.loop-k.k (valid y r).measurements (omega arith))
 
 pub returns : goal.returns
 returns c = λ d r.

@@ -1,5 +1,5 @@
 -- The first k blocks stand one behind the other.
-use Rattle.std.proofs.Common.{◌≡◌, ◌-◌, ◌≤◌, take}
+use Rattle.std.proofs.Common.{◌≡◌, take}
 use Rattle.wire.specs.Bytes.{splice}
 use Rattle.image.specs.Sizes.{digest_size}
 use Rattle.image.specs.Contents.{Contents}
