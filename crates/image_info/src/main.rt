@@ -1,198 +1,164 @@
 // Reads a provisioning image on standard input and prints what it holds, or why the reader refuses it.
 #![tactic(auto)]
 
-ghost use Rattle.std.specs.Prelude.{◌≤◌, length};
-
 use image::limits::{IMAGE_LIMIT, SLOT_LIMIT};
-use image::{Identity, Index, SlotCheck, Verdict};
+use image::{Index, SlotCheck, SlotNumber, Verdict};
 use std::io::Read;
+use std::{fmt, io};
 
 // One byte more than an image may have, so that too long an image is seen to be.
 const MOST: usize = IMAGE_LIMIT + 1;
 
-const SLOTS: u8 = SLOT_LIMIT + 1;
+// The algorithms by their bit numbers in BaseHashAlgo and BaseAsymAlgo.
+const HASHES: [&str; 6] = [
+    "SHA-256", "SHA-384", "SHA-512", "SHA3-256", "SHA3-384", "SHA3-512",
+];
 
-fn print(rt: &impl Print, text: &[u8]) {
-    let _ = rt.write_all(text);
-}
-
-fn print_number(rt: &impl Print, n: u64) {
-    let _ = rt.print(n);
-}
-
-// Bytes in hex, and the end of the line.
-fn print_digest(rt: &impl Print, bytes: &[u8]) {
-    let mut i = 0;
-    while i < bytes.len() {
-        let _ = print!(rt; "{:02x}", bytes[i]);
-        i += 1;
-    }
-    print(rt, b"\n");
-}
+const SIGNATURES: [&str; 9] = [
+    "RSASSA-2048",
+    "RSAPSS-2048",
+    "RSASSA-3072",
+    "RSAPSS-3072",
+    "ECDSA-P256",
+    "RSASSA-4096",
+    "RSAPSS-4096",
+    "ECDSA-P384",
+    "ECDSA-P521",
+];
 
 // What the paper says of a number.
-fn print_meaning(rt: &impl Print, number: u8) {
+fn meaning(number: u8) -> &'static str {
     match number {
-        1 => print(rt, b"image empty or over 61440 bytes"),
-        2 => print(rt, b"byte 0 is not 1"),
-        3 => print(
-            rt,
-            b"1 or 2 bytes left for a record head, or body runs past the end",
-        ),
-        4 => print(
-            rt,
-            b"kind unknown or out of sequence, or a needed record missing",
-        ),
-        5 => print(rt, b"a 9th chain or 33rd measurement"),
-        6 => print(rt, b"body length wrong"),
-        7 => print(
-            rt,
-            b"a field out of range, slot or index not rising, or first slot not 0",
-        ),
-        8 => print(rt, b"chain's own length field differs"),
-        _ => print(rt, b"not a number of the image"),
+        1 => "image empty or over 61440 bytes",
+        2 => "byte 0 is not 1",
+        3 => "1 or 2 bytes left for a record head, or body runs past the end",
+        4 => "kind unknown or out of sequence, or a needed record missing",
+        5 => "a 9th chain or 33rd measurement",
+        6 => "body length wrong",
+        7 => "a field out of range, slot or index not rising, or first slot not 0",
+        8 => "chain's own length field differs",
+        _ => "not a number of the image",
     }
 }
 
-// A bit number of BaseHashAlgo by its name.
-fn print_hash_name(rt: &impl Print, hash: u8) {
-    match hash {
-        0 => print(rt, b"SHA-256"),
-        1 => print(rt, b"SHA-384"),
-        2 => print(rt, b"SHA-512"),
-        3 => print(rt, b"SHA3-256"),
-        4 => print(rt, b"SHA3-384"),
-        5 => print(rt, b"SHA3-512"),
-        _ => print(rt, b"unknown"),
+fn name(names: &[&'static str], bit: u8) -> &'static str {
+    names.get(usize::from(bit)).copied().unwrap_or("unknown")
+}
+
+fn slot_number(k: u8) -> Option<SlotNumber> {
+    match image::slot_number(k) {
+        SlotCheck::Slot(slot) => Some(slot),
+        SlotCheck::OutOfRange => None,
     }
 }
 
-// A bit number of BaseAsymAlgo by its name.
-fn print_signature_name(rt: &impl Print, signature: u8) {
-    match signature {
-        0 => print(rt, b"RSASSA-2048"),
-        1 => print(rt, b"RSAPSS-2048"),
-        2 => print(rt, b"RSASSA-3072"),
-        3 => print(rt, b"RSAPSS-3072"),
-        4 => print(rt, b"ECDSA-P256"),
-        5 => print(rt, b"RSASSA-4096"),
-        6 => print(rt, b"RSAPSS-4096"),
-        7 => print(rt, b"ECDSA-P384"),
-        8 => print(rt, b"ECDSA-P521"),
-        _ => print(rt, b"unknown"),
+// The index of an image, or the number of its first fault.
+fn read(image: &[u8]) -> Result<Index, u8> {
+    let read = image_reader::read_image(image);
+    match read.verdict {
+        Verdict::Accepted => Ok(read.index),
+        Verdict::Refused(number) => Err(number),
     }
 }
 
-fn print_identity(rt: &impl Print, id: Identity) {
-    print(rt, b"CTExponent ");
-    print_number(rt, id.exponent as u64);
-    print(rt, b"\nhash ");
-    print_hash_name(rt, id.hash);
-    print(rt, b" (bit ");
-    print_number(rt, id.hash as u64);
-    print(rt, b", digests of ");
-    print_number(rt, image::digest_size(id.hash) as u64);
-    print(rt, b" bytes)\nsignature ");
-    print_signature_name(rt, id.signature);
-    print(rt, b" (bit ");
-    print_number(rt, id.signature as u64);
-    print(rt, b", ");
-    print_number(rt, image::signature_size(id.signature) as u64);
-    print(rt, b" bytes)\n");
-}
+// Bytes in hex.
+#[derive(Clone, Copy)]
+struct Hex<'a>(&'a [u8]);
 
-fn print_slot(rt: &impl Print, s: &[u8], ix: Index, k: u8) {
-    let SlotCheck::Slot(slot) = image::slot_number(k) else {
-        return;
-    };
-    let length = image_lookup::chain_length(s, ix, slot);
-    if length == 0 {
-        return;
-    }
-    print(rt, b"slot ");
-    print_number(rt, k as u64);
-    print(rt, b": chain of ");
-    print_number(rt, length as u64);
-    print(rt, b" bytes, digest ");
-    print_digest(rt, image_lookup::digest(s, ix, slot));
-}
-
-// A measurement is its index, its type and its digest.
-fn print_measurement(rt: &impl Print, entry: &[u8]) {
-    print(rt, b"measurement ");
-    print_number(rt, wire::byte_at(entry, 0) as u64);
-    print(rt, b": type ");
-    print_number(rt, wire::byte_at(entry, 1) as u64);
-    print(rt, b", digest ");
-    print_digest(rt, wire::part_of(entry, 2, entry.len()));
-}
-
-fn print_slots(rt: &impl Print, s: &[u8], ix: Index) {
-    for k in 0..SLOTS {
-        print_slot(rt, s, ix, k);
-    }
-}
-
-fn print_measurements(rt: &impl Print, s: &[u8], ix: Index) {
-    for k in 0..wire::wide(ix.measurements) {
-        print_measurement(rt, image_lookup::nth_measurement(s, ix, k));
-    }
-}
-
-fn print_contents(rt: &impl Print, s: &[u8], ix: Index) {
-    print_identity(rt, ix.identity);
-    print_slots(rt, s, ix);
-    if ix.measurements == 0 {
-        return;
-    }
-    print_measurements(rt, s, ix);
-    print(rt, b"summary of the TCB ");
-    print_digest(rt, image_lookup::tcb_summary(s, ix));
-    print(rt, b"summary of all ");
-    print_digest(rt, image_lookup::full_summary(s, ix));
-}
-
-fn print_image(rt: &impl Print, s: &[u8]) {
-    print(rt, b"image of ");
-    print_number(rt, s.len() as u64);
-    if s.len() == MOST {
-        print(rt, b" bytes or more");
-    } else {
-        print(rt, b" bytes");
-    }
-    let read = image_reader::read_image(s);
-    let verdict = read.verdict;
-    let Verdict::Refused(number) = verdict else {
-        print(rt, b": accepted\n");
-        print_contents(rt, s, read.index);
-        return;
-    };
-    print(rt, b"\nrefused: ");
-    print_number(rt, number as u64);
-    print(rt, b" (");
-    print_meaning(rt, number);
-    print(rt, b")\n");
-}
-
-// Reads until the room is full, the input ends or a read fails, and answers how many bytes there are then.
-fn read_full(stdin: &mut impl Read, room: &mut [u8]) -> usize
-    ensures { result ≤ length room.new }
-{
-    let mut done = 0;
-    while done < room.len() {
-        let Ok(n) = stdin.read(&mut room[done..]) else {
-            break;
-        };
-        if n == 0 {
-            break;
+impl fmt::Display for Hex<'_> {
+    fn fmt<W: fmt::Write>(&self, f: &mut fmt::Formatter<W>) -> fmt::Result {
+        for byte in self.0 {
+            write!(f, "{byte:02x}")?;
         }
-        done += n;
+        Ok(())
     }
-    done
 }
 
+// An accepted image.
+#[derive(Clone, Copy)]
+struct Contents<'a> {
+    image: &'a [u8],
+    index: Index,
+}
+
+impl Contents<'_> {
+    fn print_identity(&self, rt: &impl Print) -> io::Result<()> {
+        let id = self.index.identity;
+        println!(rt; "CTExponent {}", id.exponent)?;
+        println!(rt;
+            "hash {} (bit {}, digests of {} bytes)",
+            name(&HASHES, id.hash),
+            id.hash,
+            image::digest_size(id.hash)
+        )?;
+        println!(rt;
+            "signature {} (bit {}, {} bytes)",
+            name(&SIGNATURES, id.signature),
+            id.signature,
+            image::signature_size(id.signature)
+        )
+    }
+
+    fn print_slots(&self, rt: &impl Print) -> io::Result<()> {
+        for k in 0..=SLOT_LIMIT {
+            let Some(slot) = slot_number(k) else {
+                continue;
+            };
+            let length = image_lookup::chain_length(self.image, self.index, slot);
+            if length > 0 {
+                let digest = Hex(image_lookup::digest(self.image, self.index, slot));
+                println!(rt; "slot {k}: chain of {length} bytes, digest {digest}")?;
+            }
+        }
+        Ok(())
+    }
+
+    // A measurement is its index, its type and its digest.
+    fn print_measurements(&self, rt: &impl Print) -> io::Result<()> {
+        for k in 0..usize::from(self.index.measurements) {
+            if let [index, kind, digest @ ..] = image_lookup::nth_measurement(
+                self.image, self.index, k,
+            ) {
+                println!(rt; "measurement {index}: type {kind}, digest {}", Hex(digest))?;
+            }
+        }
+        Ok(())
+    }
+
+    fn print(&self, rt: &impl Print) -> io::Result<()> {
+        self.print_identity(rt)?;
+        self.print_slots(rt)?;
+        if self.index.measurements == 0 {
+            return Ok(());
+        }
+        self.print_measurements(rt)?;
+        println!(rt;
+            "summary of the TCB {}",
+            Hex(image_lookup::tcb_summary(self.image, self.index))
+        )?;
+        println!(rt;
+            "summary of all {}",
+            Hex(image_lookup::full_summary(self.image, self.index))
+        )
+    }
+}
+
+fn print_image(rt: &impl Print, image: &[u8]) -> io::Result<()> {
+    let length = image.len();
+    let more = if length == MOST { " or more" } else { "" };
+    print!(rt; "image of {length} bytes{more}")?;
+    match read(image) {
+        Ok(index) => {
+            println!(rt; ": accepted")?;
+            Contents { image, index }.print(rt)
+        }
+        Err(number) => println!(rt; "\nrefused: {number} ({})", meaning(number)),
+    }
+}
+
+// A read that fails ends the image, and output that cannot be written is left.
 fn main(rt: HostRuntime) {
-    let mut space = [0u8; MOST];
-    let n = read_full(&mut rt.reader(), &mut space);
-    print_image(&rt, &space[..n]);
+    let mut image = Vec::new(rt.alloc());
+    let _ = rt.reader().take(MOST as u64).read_to_end(&mut image);
+    let _ = print_image(&rt, &image);
 }

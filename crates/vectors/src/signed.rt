@@ -1,71 +1,37 @@
 // What is to be signed: the prefix, and the bytes to hash behind it.
-use crate::fields::between;
-use crate::text::{put, put_changed, put_checksum, put_decimal};
-use crate::{FILL, TEXT, TRANSCRIPT};
+use crate::FILL;
+use crate::text::{changed, crc32};
 use rules::State;
+use std::alloc::{AllocError, Global};
 
-// Room for a prefix, more than the longest has, and for all that is signed.
+// Room for a prefix, more than the longest has.
 const PREFIX: usize = 128;
-
-const SIGNED: usize = PREFIX + TRANSCRIPT;
 
 // What a second buffer for the prefix is filled with.
 const OTHER_FILL: u8 = 90;
 
-// How many first bytes of two buffers are the same.
-fn same_length(a: &[u8; PREFIX], b: &[u8; PREFIX]) -> usize {
-    let mut i = 0;
-    while i < PREFIX {
-        if a[i] != b[i] {
-            return i;
-        }
-        i += 1;
-    }
-    i
-}
-
-// How many bytes the prefix has that was written to a buffer: so many are the same in one that held other bytes.
-fn prefix_length(s: State, prefix: &[u8; PREFIX]) -> usize {
+// A buffer with the prefix at its start, and how many bytes it has: so many are the same in one that held other bytes.
+fn prefix_of(state: State) -> ([u8; PREFIX], usize) {
+    let mut prefix = [FILL; PREFIX];
+    signing::write_prefix(state, &mut prefix);
     let mut other = [OTHER_FILL; PREFIX];
-    signing::write_prefix(s, &mut other);
-    same_length(prefix, &other)
+    signing::write_prefix(state, &mut other);
+    let n = prefix
+        .iter()
+        .zip(&other)
+        .take_while(|(a, b)| a == b)
+        .count();
+    (prefix, n)
 }
 
-// The bytes to hash, from a place on.
-fn put_hashed(
-    rt: &impl Print,
-    out: &mut [u8; SIGNED],
-    at: usize,
-    s: State,
-    transcript: &[u8],
-) -> usize {
-    let second = put(rt, out, at, signing::first_part(s, transcript));
-    put(rt, out, second, signing::second_part(s, transcript))
-}
-
-// The lengths of a prefix and of what follows it up to an end, and the CRC-32 of both.
-fn put_lengths(
-    rt: &impl Print,
-    text: &mut [u8; TEXT],
-    signed: &[u8; SIGNED],
-    prefix: usize,
-    end: usize,
-) -> usize {
-    let length = put_decimal(rt, text, 0, prefix);
-    let space = put(rt, text, length, b" ");
-    let crc = put_decimal(rt, text, space, between(signed, prefix, end).len());
-    put_checksum(rt, text, crc, between(signed, 0, end))
-}
-
-// What is to be signed, as the vectors have it.
-pub fn put_signed(rt: &impl Print, text: &mut [u8; TEXT], s: State, transcript: &[u8]) -> usize {
-    let before = [FILL; PREFIX];
-    let mut prefix = before;
-    signing::write_prefix(s, &mut prefix);
-    let n = prefix_length(s, &prefix);
-    let mut signed = [0u8; SIGNED];
-    let hashed = put(rt, &mut signed, 0, wire::part_of(&prefix, 0, n));
-    let end = put_hashed(rt, &mut signed, hashed, s, transcript);
-    let last = put_lengths(rt, text, &signed, hashed, end);
-    put_changed(rt, text, last, &before, &prefix, n)
+// What is to be signed, as the vectors have it: the lengths of the prefix and of what is hashed behind it, and the CRC-32 of both.
+pub fn signed(alloc: Global, state: State, transcript: &[u8]) -> Result<String, AllocError> {
+    let (prefix, n) = prefix_of(state);
+    let mut all = Vec::new(alloc);
+    all.extend_from_slice(wire::part_of(&prefix, 0, n))?;
+    all.extend_from_slice(signing::first_part(state, transcript))?;
+    all.extend_from_slice(signing::second_part(state, transcript))?;
+    let hashed = all.len().saturating_sub(n);
+    let changed = changed(&[FILL; PREFIX], &prefix, n);
+    format!(in alloc; "{n} {hashed} {:08x}{changed}", crc32(&all))
 }

@@ -1,102 +1,66 @@
 // Writer: a line has a first byte, the length of the lent output, records, and what the writer is to give.
-use crate::fields::{byte, decode, number, part, word};
-use crate::text::{put, put_changed, put_decimal, put_hex};
-use crate::{FILL, IMAGE, TEXT};
+use crate::text::{Hex, changed};
+use crate::words::{byte, decode, length, word};
+use crate::{FILL, IMAGE};
 use image_writer::Written;
+use std::alloc::{AllocError, Global};
 
-// A line has at most so many records.
-const RECORDS: usize = 64;
-
-// kind:body: puts a record's kind and its length at its number, and its body from a place on; answers where that ends.
-fn take_record(
-    rt: &impl Print,
-    record: &[u8],
-    i: usize,
-    kinds: &mut [u8; RECORDS],
-    lengths: &mut [usize; RECORDS],
-    bodies: &mut [u8; IMAGE],
-    at: usize,
-) -> usize {
-    let end = decode(rt, part(record, 1, b':'), bodies, at);
-    if i < RECORDS && at <= end {
-        kinds[i] = byte(rt, part(record, 0, b':'));
-        lengths[i] = end - at;
-    }
-    end
+// Records as the writer takes them.
+#[derive(Drop)]
+struct Records {
+    kinds: Vec<u8>,
+    lengths: Vec<usize>,
+    bodies: Vec<u8>,
 }
 
-// record,record,..: the records of a line, a single '-' for none; answers how many there are.
-fn take_records(
-    rt: &impl Print,
-    records: &[u8],
-    kinds: &mut [u8; RECORDS],
-    lengths: &mut [usize; RECORDS],
-    bodies: &mut [u8; IMAGE],
-) -> usize {
-    if check::same(records, b"-") {
-        return 0;
-    }
-    let mut at = 0;
-    for i in 0..RECORDS {
-        let record = part(records, i, b',');
-        if record.len() == 0 {
-            return i;
+impl Records {
+    fn new(alloc: Global) -> Records {
+        Records {
+            kinds: Vec::new(alloc),
+            lengths: Vec::new(alloc),
+            bodies: Vec::new(alloc),
         }
-        at = take_record(rt, record, i, kinds, lengths, bodies, at);
     }
-    RECORDS
-}
 
-// What the writer gave, as the vectors have it.
-fn put_given(
-    rt: &impl Print,
-    text: &mut [u8; TEXT],
-    written: Written,
-    before: &[u8; IMAGE],
-    out: &[u8; IMAGE],
-) -> usize {
-    match written {
-        Written::Image(n) => {
-            let image = put(rt, text, 0, b"0 ");
-            let end = put_hex(rt, text, image, wire::part_of(out, 0, n));
-            put_changed(rt, text, end, before, out, n)
-        }
-        Written::Refused(number) => {
-            let space = put_decimal(rt, text, 0, number as usize);
-            let end = put(rt, text, space, b" -");
-            put_changed(rt, text, end, before, out, 0)
+    fn push(&mut self, kind: u8, body: &[u8]) -> Result<(), AllocError> {
+        self.kinds.push(kind)?;
+        self.lengths.push(body.len())?;
+        self.bodies.extend_from_slice(body)
+    }
+
+    // The image at the start of out, and its length; or the number of the first fault.
+    fn write(&self, first: u8, out: &mut [u8]) -> Result<usize, u8> {
+        match image_writer::write_image(out, first, &self.kinds, &self.lengths, &self.bodies) {
+            Written::Image(n) => Ok(n),
+            Written::Refused(number) => Err(number),
         }
     }
 }
 
-// Lends the writer so many bytes as the line says, and so many records.
-fn write(
-    rt: &impl Print,
-    line: &[u8],
-    count: usize,
-    kinds: &[u8; RECORDS],
-    lengths: &[usize; RECORDS],
-    bodies: &[u8; IMAGE],
-    out: &mut [u8],
-) -> Written {
-    let n = io::count(number(line, 1) as isize, out);
-    image_writer::write_image(
-        &mut out[..n],
-        byte(rt, word(line, 0)),
-        wire::part_of(kinds, 0, count),
-        lengths,
-        bodies,
-    )
+// kind:body,kind:body,..: the records of a line, a single '-' for none.
+fn records_of(rt: &(impl AllocGlobal + Print), list: &str) -> Result<Records, AllocError> {
+    let mut records = Records::new(rt.alloc());
+    let list = if list == "-" { "" } else { list };
+    for record in list.split(',').take_while(|record| !record.is_empty()) {
+        let mut parts = record.split(':');
+        let kind = parts.next().unwrap_or("");
+        let body = decode(rt, parts.next().unwrap_or(""))?;
+        records.push(byte(rt, kind), &body)?;
+    }
+    Ok(records)
 }
 
 // What the writer makes of a line, as the vectors have it.
-pub fn put_written(rt: &impl Print, text: &mut [u8; TEXT], line: &[u8]) -> usize {
-    let mut kinds = [0u8; RECORDS];
-    let mut lengths = [0usize; RECORDS];
-    let mut bodies = [0u8; IMAGE];
-    let count = take_records(rt, word(line, 2), &mut kinds, &mut lengths, &mut bodies);
+pub fn written(rt: &(impl AllocGlobal + Print), line: &str) -> Result<String, AllocError> {
+    let records = records_of(rt, word(line, 2))?;
     let before = [FILL; IMAGE];
-    let mut out = [FILL; IMAGE];
-    let written = write(rt, line, count, &kinds, &lengths, &bodies, &mut out);
-    put_given(rt, text, written, &before, &out)
+    let mut out = before;
+    let lent = length(line, 1).min(IMAGE);
+    match records.write(byte(rt, word(line, 0)), &mut out[..lent]) {
+        Ok(n) => {
+            let image = Hex(wire::part_of(&out, 0, n));
+            format!(in rt.alloc(); "0 {image}{}", changed(&before, &out, n))
+        }
+        Err(number) => format!(in rt.alloc(); "{number} -{}", changed(&before, &out, 0)),
+    }
 }
