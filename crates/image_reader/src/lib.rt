@@ -146,6 +146,7 @@ fn run_from(s: &[u8], from: usize, w: Seen) -> (usize, Seen)
 }
 
 // The records behind the identity, one after the other; measurements behind the first by runs.
+#[tactic(auto, using(crate::proofs::Turns::turns))]
 fn walk(s: &[u8], identity: Identity) -> Result<Index, Fault>
     requires { (length s.now ≤ image_limit) × (identity_fault (identity_body identity) ≡ 0) }
     ensures { told result ≡ answer_of (read_on (identified identity) (frames_at s.now identity_end)) }
