@@ -135,3 +135,6 @@ frames_whole b = let d = length-drop 1 b in fuel (length b - 1) (length b) (drop
 pub within : (b : List ℕ) (at : ℕ) {g : Option Frame} {f : Frame} → g ≡ Some f → found g ≡ frame_at b at
     → (f.start ≤ f.end) × (f.end ≤ length b)
 within b at {g} {f} e h = let w = said b at (found (Some f)) (rw e at h) in (w.ordered, w.inside)
+
+-- what the readers of a record need of its frame
+pub ruleset records = (picks, within)

@@ -27,7 +27,7 @@ use Rattle.image_records.proofs.Good.{chain-fine, measurement-fine}
 use Rattle.image_records.proofs.Seeing.{seen-extended}
 use Rattle.image_reader.specs.declared.Frame.{Frame}
 use Rattle.image_reader.specs.declared.Record.{Record}
-use Rattle.image_reader.proofs.Frames.{Whole, Says, said, frames_read}
+use Rattle.image_reader.proofs.Frames.{Says, said, frames_read}
 use Rattle.image_reader.proofs.Runs.{measurement-seen}
 use Rattle.image.proofs.Framed.{record_length, empty}
 use Rattle.image.proofs.Sound.{Sound}
@@ -52,6 +52,7 @@ turn_read b c at = framed b c at (frame_at b at) (frames_read b at)
 
 -- a good record is a whole frame without a fault, and it carries what is seen past it
 pub record Taken (b : List ℕ) (w : Seen) (g : Result (Option Frame)) (r : Record) : Type 0 where
+  pub read : found (Some r) ≡ record_of b w g
   pub whole : found (Some r.frame) ≡ g
   pub fine : record_fault w r.frame.kind (body_in b r.frame) ≡ 0
   pub seeing : r.next ≡ seen_after w r.frame.kind (get_or (body_in b r.frame) 0 0)
@@ -66,9 +67,38 @@ taken b w (found (Some f)) r e =
     let k : r.frame ≡ f = cc in
     let v : seen_after w f.kind (get_or (body_in b f) 0 0) ≡ r.next = cc in
     let z : record_fault w f.kind (body_in b f) ≡ 0 = eqb-true _ 0 t in
-    record { whole = cc; fine = rw k z; seeing = rw k (sym v) })
+    record { read = sym e; whole = cc; fine = rw k z; seeing = rw k (sym v) })
     (λ t g. cc)
     e
+
+-- what a good record tells
+module _ (b : List ℕ) (w : Seen) (at : ℕ) {g : Option Record} {x : Record} (e : g ≡ Some x) (f : found g ≡ record_of b w (frame_at b at)) where
+  good : Taken b w (frame_at b at) x
+  good = taken b w (frame_at b at) x (sym (rw e at f))
+
+  pub good-within : (x.frame.start ≡ at + head_length) × ((x.frame.start ≤ x.frame.end) × (x.frame.end ≤ length b))
+  good-within = let h = said b at (found (Some x.frame)) good.whole in (h.start, (h.ordered, h.inside))
+
+  pub good-slot : x.frame.kind ≡ chain_kind → x.next.slot ≤ slot_limit
+  good-slot k =
+      let n = ap (λ (v : Seen). v.slot) (good.seeing ∙ sym (pick_yes _ _ _ _ (eq-eqb x.frame.kind chain_kind k) refl)) in
+      let h = (chain-fine w x.frame.kind (body_in b x.frame) good.fine k).slot in
+      omega arith
+
+  -- behind a good measurement more may follow
+  pub good-measuring : x.frame.kind ≡ measurement_kind → (Measuring x.next) × (0 < x.next.measurements)
+  good-measuring k =
+      let h = measurement-fine w x.frame.kind (body_in b x.frame) good.fine k in
+      let n : x.next ≡ measured w (w.measurements + 1) (get_or (body_in b x.frame) 0 0) = good.seeing ∙ measurement-seen w x.frame.kind _ k in
+      subst (λ (v : Seen). (Measuring v) × (0 < v.measurements)) (sym n) (record { chained = h.chained; few = omega arith; unsummed = h.first }, omega arith)
+
+-- a run leads on
+pub run-onward : {b : List ℕ} {from : ℕ} {w : Seen} {at : ℕ} {v : Seen} → Run b from w at v → from ≤ at
+run-onward none = omega arith
+run-onward {b} (more {at} {v} run x k e) =
+    let i = good-within b v at {x = x} refl (sym e) in
+    let o = run-onward run in
+    omega arith
 
 -- places are alike where both fields are
 both : {l l' : List ℕ} {n n' : ℕ} → l ≡ l' → n ≡ n' → ◌≡◌ {A = Places} (record { bodies = l; first = n }) (record { bodies = l'; first = n' })
@@ -208,28 +238,6 @@ module _ {b : List ℕ} {c₀ : Contents} {at : ℕ} {w : Seen} {p : Places} (r 
       ap found i ∙ sym (ap answer_of (here ∙ ap (concluded b r.held) (sym e)))
 
   module _ {x : Record} {g : Option Record} (e : g ≡ Some x) (f : found g ≡ record_of b w (frame_at b at)) where
-    read : found (Some x) ≡ record_of b w (frame_at b at)
-    read = rw e at f
-
-    good : Taken b w (frame_at b at) x
-    good = taken b w (frame_at b at) x (sym read)
-
-    pub good-within : Whole b at x.frame
-    good-within = said b at (found (Some x.frame)) good.whole
-
-    pub good-slot : x.frame.kind ≡ chain_kind → x.next.slot ≤ slot_limit
-    good-slot k =
-        let n = ap (λ (v : Seen). v.slot) (good.seeing ∙ sym (pick_yes _ _ _ _ (eq-eqb x.frame.kind chain_kind k) refl)) in
-        let h = (chain-fine w x.frame.kind (body_in b x.frame) good.fine k).slot in
-        omega arith
-
-    -- behind a good measurement more may follow
-    pub good-measuring : x.frame.kind ≡ measurement_kind → (Measuring x.next) × (0 < x.next.measurements)
-    good-measuring k =
-        let f = measurement-fine w x.frame.kind (body_in b x.frame) good.fine k in
-        let n : x.next ≡ measured w (w.measurements + 1) (get_or (body_in b x.frame) 0 0) = good.seeing ∙ measurement-seen w x.frame.kind _ k in
-        subst (λ (v : Seen). (Measuring v) × (0 < v.measurements)) (sym n) (record { chained = f.chained; few = omega arith; unsummed = f.first }, omega arith)
-
     pub reached-next : Reached b c₀ x.frame.end x.next (places_after p w x.frame.kind x.next.slot x.frame.start)
     unfolding concluded
     reached-next =
@@ -238,12 +246,13 @@ module _ {b : List ℕ} {c₀ : Contents} {at : ℕ} {w : Seen} {p : Places} (r 
         let start = x.frame.start in
         let body = body_in b x.frame in
         let key = get_or body 0 0 in
-        let i = good-within in
-        let f : record_fault (seen c) kind body ≡ 0 = subst (λ (v : Seen). record_fault v kind body ≡ 0) r.seeing good.fine in
+        let t = good b w at e f in
+        let i = good-within b w at e f in
+        let f : record_fault (seen c) kind body ≡ 0 = subst (λ (v : Seen). record_fault v kind body ≡ 0) r.seeing t.fine in
         let g = grown c kind body r.sound f in
-        let o = i.ordered in
-        let q = i.inside in
-        let s : start ≡ at + head_length = i.start in
+        let s : start ≡ at + head_length = i.0 in
+        let o = i.1.0 in
+        let q = i.1.1 in
         let l : length body ≡ x.frame.end - start = part_length b start (x.frame.end - start) (omega arith) in
         let n = ap length g.bytes in
         let m = length-append (image_bytes c) (record_bytes kind body) in
@@ -252,10 +261,10 @@ module _ {b : List ℕ} {c₀ : Contents} {at : ℕ} {w : Seen} {p : Places} (r 
         let a : start ≡ length (image_bytes c) + head_length = omega arith in
         record {
           held = extended c kind body;
-          same = here ∙ ap (concluded b c) (sym read);
+          same = here ∙ ap (concluded b c) (sym t.read);
           sound = g.sound;
-          seeing = good.seeing ∙ ap (λ (v : Seen). seen_after v kind key) r.seeing ∙ sym (seen-extended c kind body);
-          places = ap (λ (v : Seen). places_after p w kind v.slot start) good.seeing ∙ sym (slot_seen p w kind key start)
+          seeing = t.seeing ∙ ap (λ (v : Seen). seen_after v kind key) r.seeing ∙ sym (seen-extended c kind body);
+          places = ap (λ (v : Seen). places_after p w kind v.slot start) t.seeing ∙ sym (slot_seen p w kind key start)
               ∙ ap (λ (v : Seen). places_after p v kind key start) r.seeing ∙ ap (λ (q : Places). places_after q (seen c) kind key start) r.places
               ∙ sym (places-extended c kind body start r.sound f a);
           place = omega arith;
@@ -268,22 +277,21 @@ unfolding pick
 places-kept p v kind slot start k m = let t = ne_eqb v.measurements 0 (λ z. omega arith) in rw (k, t)
 
 -- a run behind a measurement moves the turn on
-pub record Ran (b : List ℕ) (c₀ : Contents) (from : ℕ) (p : Places) (at : ℕ) (v : Seen) : Type 0 where
+record Ran (b : List ℕ) (c₀ : Contents) (p : Places) (at : ℕ) (v : Seen) : Type 0 where
   pub reached : Reached b c₀ at v p
-  pub onward : from ≤ at
   pub measuring : 0 < v.measurements
 
-pub reached-run : {b : List ℕ} {c₀ : Contents} {from : ℕ} {w : Seen} {p : Places} {at : ℕ} {v : Seen} → Reached b c₀ from w p → 0 < w.measurements → Run b from w at v → Ran b c₀ from p at v
-reached-run r m none = record { reached = r; onward = omega arith; measuring = m }
-reached-run {b} {c₀} {p = p} r m (more {at} {v} run x k e) =
-    let i = reached-run r m run in
-    let q = i.reached in
-    let g = good-within q {x = x} refl (sym e) in
-    let o = i.onward in
-    let s : x.frame.start ≡ at + head_length = g.start in
-    let d = g.ordered in
+ran : {b : List ℕ} {c₀ : Contents} {from : ℕ} {w : Seen} {p : Places} {at : ℕ} {v : Seen} → Reached b c₀ from w p → 0 < w.measurements → Run b from w at v → Ran b c₀ p at v
+ran r m none = record { reached = r; measuring = m }
+ran {b} {c₀} {p = p} r m (more {at} {v} run x k e) =
+    let i = ran r m run in
     record {
-      reached = subst (Reached b c₀ x.frame.end x.next) (places-kept p v x.frame.kind x.next.slot x.frame.start k i.measuring) (reached-next q {x = x} refl (sym e));
-      onward = omega arith;
-      measuring = (good-measuring q {x = x} refl (sym e) k).1;
+      reached = subst (Reached b c₀ x.frame.end x.next) (places-kept p v x.frame.kind x.next.slot x.frame.start k i.measuring) (reached-next i.reached {x = x} refl (sym e));
+      measuring = (good-measuring b v at {x = x} refl (sym e) k).1;
     }
+
+pub reached-run : {b : List ℕ} {c₀ : Contents} {from : ℕ} {w : Seen} {p : Places} {at : ℕ} {v : Seen} → Reached b c₀ from w p → 0 < w.measurements → Run b from w at v → Reached b c₀ at v p
+reached-run r m run = (ran r m run).reached
+
+-- what the walk needs of its turns
+pub ruleset turns = (reached-first, reached-refused, reached-end, reached-next, reached-run, run-onward, good-within, good-slot, good-measuring)

@@ -2,8 +2,9 @@
 use Rattle.std.specs.Prelude.{Option, Some, None, List, ℕ, ◌+◌, ◌-◌, length, get_or, set, drop, ltb, leb, eqb}
 use Rattle.wire.specs.Bytes.{be_at, part}
 use Rattle.wire.specs.Pick.{pick}
-use Rattle.image.specs.Limits.{head_length, broken_record, chain_kind, measurement_kind}
-use Rattle.image.specs.Reading.{Result, number, found, unless, Frames, frames_of, end_fault}
+use Rattle.image.specs.Limits.{head_length, identity_end, broken_record, wrong_kind, identity_kind, chain_kind, measurement_kind}
+use Rattle.image.specs.Contents.{Contents}
+use Rattle.image.specs.Reading.{Result, number, found, unless, Frames, frames_of, identity_fault, identity_in, identified, read_on, end_fault}
 use Rattle.image.specs.declared.Identity.{Identity}
 use Rattle.image.specs.declared.Seen.{Seen}
 use Rattle.image.specs.declared.Index.{Index}
@@ -36,6 +37,15 @@ unfoldable pub record_of : List ℕ → Seen → Result (Option Frame) → Resul
 record_of b w (number k) = number k
 record_of b w (found None) = unless (end_fault w) (found None)
 record_of b w (found (Some f)) = held_record f (held_of w f.kind (body_in b f))
+
+-- what the image reads as, by the frame behind the version byte
+unfoldable pub first_read : List ℕ → Result (Option Frame) → Result Contents
+first_read b (number k) = number k
+first_read b (found None) = number wrong_kind
+first_read b (found (Some f)) =
+    pick (eqb f.kind identity_kind)
+    (unless (identity_fault (body_in b f)) (read_on (identified (identity_in (body_in b f))) (frames_at b identity_end)))
+    (number wrong_kind)
 
 -- where the records stand: each chain's body by its slot, and the first measurement's
 pub record Places : Type 0 where

@@ -4,10 +4,10 @@
 ghost use Rattle.std.specs.Prelude.{◌≡◌, ◌+◌, ◌<◌, ◌≤◌, length};
 ghost use Rattle.image.specs.Limits.{image_limit, head_length, slot_limit, chain_kind, identity_end};
 ghost use Rattle.image.specs.Contents.{identity_body};
-ghost use Rattle.image.specs.Reading.{reading, read_all, read_on, identity_fault, identified};
+ghost use Rattle.image.specs.Reading.{reading, read_on, identity_fault, identified};
 ghost use Rattle.image.specs.Fault.{told};
 ghost use Rattle.image.specs.Index.{answer_of};
-ghost use Rattle.image_reader.specs.Steps.{frames_at, frame_at, body_in, record_of, bodies_after, first_after};
+ghost use Rattle.image_reader.specs.Steps.{frames_at, frame_at, body_in, first_read, record_of, bodies_after, first_after};
 ghost use Rattle.image_reader.specs.Runs.{Head, Measuring, Run};
 
 use image::limits::{
@@ -65,7 +65,7 @@ struct Record {
 }
 
 // The record at a place, held against those before it.
-#[tactic(auto, using(wire::proofs::Picks::picks), unfolding(crate::specs::Steps::record_of, crate::specs::Steps::held_record, image::specs::Reading::unless))]
+#[tactic(auto, using(crate::proofs::Frames::records), unfolding(crate::specs::Steps::record_of, crate::specs::Steps::held_record, image::specs::Reading::unless))]
 fn read_record(s: &[u8], at: usize, w: Seen) -> Result<Option<Record>, Fault>
     ensures { told result ≡ record_of s.now w (frame_at s.now at) }
 {
@@ -146,6 +146,7 @@ fn run_from(s: &[u8], from: usize, w: Seen) -> (usize, Seen)
 }
 
 // The records behind the identity, one after the other; measurements behind the first by runs.
+#[tactic(auto, using(crate::proofs::Turns::turns))]
 fn walk(s: &[u8], identity: Identity) -> Result<Index, Fault>
     requires { (length s.now ≤ image_limit) × (identity_fault (identity_body identity) ≡ 0) }
     ensures { told result ≡ answer_of (read_on (identified identity) (frames_at s.now identity_end)) }
@@ -179,9 +180,10 @@ fn walk(s: &[u8], identity: Identity) -> Result<Index, Fault>
 }
 
 // The identity, and the records behind it.
+#[tactic(auto, using(crate::proofs::First::firsts), unfolding(crate::specs::Steps::first_read, image::specs::Reading::unless, image::specs::Index::answer_of))]
 fn read_records(s: &[u8]) -> Result<Index, Fault>
     requires { length s.now ≤ image_limit }
-    ensures { told result ≡ answer_of (read_all (frames_at s.now 1)) }
+    ensures { told result ≡ answer_of (first_read s.now (frame_at s.now 1)) }
 {
     let Some(frame) = frame_at(s, 1)? else {
         return Err(Fault::WrongKind);
