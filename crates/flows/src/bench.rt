@@ -1,6 +1,7 @@
 // The bench of an image: each flow on a connection of its own, printed.
-use crate::connection::{Connection, Peer, Request, VERSION_11, VERSION_12};
+use crate::connection::Connection;
 use crate::flow::{FLOWS_11, FLOWS_12, Flow, NEGOTIATION, SETUP};
+use crate::request::{Peer, Request, VERSION_11, VERSION_12};
 use crate::show::Sum;
 use std::io;
 

@@ -1,9 +1,10 @@
 // A connection of the bench: requests with their answers, each printed.
 use crate::images::LONGEST;
+use crate::request::{Peer, Request, VERSION_10, VERSION_11};
 use crate::show::Hex;
 use crate::signed::Signed;
 use rules::{Outcome, Reply, State};
-use std::{fmt, io};
+use std::io;
 
 // The buffers that are lent.
 const TRANSCRIPT: usize = 36864;
@@ -13,63 +14,6 @@ const ANSWER: usize = 4608;
 const NONCE: [u8; 32] = *b"the responder's nonce, 32 bytes.";
 
 const SIGNATURE: [u8; 64] = *b"the chip's signature of 64 bytes, which is a pattern for a test.";
-
-// The versions that a peer can speak, and the one of GET_VERSION.
-const VERSION_10: u8 = 0x10;
-
-pub const VERSION_11: u8 = 0x11;
-
-pub const VERSION_12: u8 = 0x12;
-
-// The requests that are sent, each with its code.
-#[derive(Clone, Copy, Debug, PartialEq, Eq)]
-pub enum Request {
-    Digests = 0x81,
-    Certificate = 0x82,
-    Challenge = 0x83,
-    Version = 0x84,
-    Capabilities = 0xE1,
-    Algorithms = 0xE3,
-}
-
-impl Request {
-    pub fn code(self) -> u8 {
-        self as u8
-    }
-}
-
-impl fmt::Display for Request {
-    fn fmt<W: fmt::Write>(&self, f: &mut fmt::Formatter<W>) -> fmt::Result {
-        let name = match self {
-            Request::Digests => "GET_DIGESTS",
-            Request::Certificate => "GET_CERTIFICATE",
-            Request::Challenge => "CHALLENGE",
-            Request::Version => "GET_VERSION",
-            Request::Capabilities => "GET_CAPABILITIES",
-            Request::Algorithms => "NEGOTIATE_ALGORITHMS",
-        };
-        write!(f, "{name}")
-    }
-}
-
-// What a peer's requests have in them: the version that it speaks, the slot, and CHALLENGE's Param2.
-#[derive(Clone, Copy, Debug, PartialEq, Eq)]
-pub struct Peer {
-    pub version: u8,
-    pub slot: u8,
-    pub summary: u8,
-}
-
-impl Peer {
-    // The peer that speaks a version, with the first slot and no summary.
-    pub fn new(version: u8) -> Self {
-        Peer {
-            version,
-            slot: 0,
-            summary: 0,
-        }
-    }
-}
 
 // GET_CAPABILITIES, but for its version: both sizes are 4,608.
 const CAPABILITIES: [u8; 20] =
@@ -82,15 +26,15 @@ const CAPABILITIES_11: usize = 12;
 const OFFER: [u8; 32] =
     *b"\x00\xE3\x00\x00\x20\x00\x01\x00\x10\x00\x00\x00\x01\x00\x00\x00\x00\x00\x00\x00\x00\x00\x00\x00\x00\x00\x00\x00\x00\x00\x00\x00";
 
-// The bytes of a CHALLENGE, and the nonce that its last ones are.
-pub const CHALLENGE_LENGTH: usize = 36;
-
 const REQUESTER_NONCE: [u8; 32] = *b"the requester's nonce, 32 bytes.";
 
 // The code of the answer to GET_CERTIFICATE, and where it has the length of the remainder.
 const CERTIFICATE: u8 = 0x02;
 
 const REMAINDER_AT: usize = 6;
+
+// Where DIGESTS has the mask of its slots.
+const SLOT_MASK_AT: usize = 3;
 
 // A portion of a chain has at most so many bytes.
 const PORTION: usize = 1024;
@@ -169,7 +113,7 @@ impl<'a, P: Print> Connection<'a, P> {
 
     // The mask of the slots that DIGESTS names, where that was the last answer.
     pub fn slot_mask(&self) -> u8 {
-        self.answer[3]
+        self.answer[SLOT_MASK_AT]
     }
 
     // Sends a request with nothing printed: the answer's bytes, none beside a number for the host.
@@ -218,32 +162,14 @@ impl<'a, P: Print> Connection<'a, P> {
 
     // Sends a CHALLENGE.
     pub fn challenge(&mut self, peer: Peer) -> io::Result<()> {
-        let request = Request::Challenge;
-        let head = [peer.version, request.code(), peer.slot, peer.summary];
-        let mut bytes = [0; CHALLENGE_LENGTH];
-        bytes[..4].copy_from_slice(&head);
-        bytes[4..].copy_from_slice(&REQUESTER_NONCE);
-        self.ask(request, &bytes)
+        self.ask(Request::Challenge, &peer.challenge(&REQUESTER_NONCE))
     }
 
     // Reads a slot's chain to its end, each time with the largest length.
     fn read_chain(&mut self, peer: Peer) -> io::Result<()> {
-        let request = Request::Certificate;
         for offset in (0..LONGEST).step_by(PORTION) {
-            let [low, high] = offset.to_le_bytes();
-            self.ask(
-                request,
-                &[
-                    peer.version,
-                    request.code(),
-                    peer.slot,
-                    0,
-                    low,
-                    high,
-                    0xFF,
-                    0xFF,
-                ],
-            )?;
+            let bytes = peer.get_certificate(offset, u16::MAX);
+            self.ask(Request::Certificate, &bytes)?;
             if is_last(&self.answer) {
                 break;
             }

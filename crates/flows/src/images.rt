@@ -28,11 +28,7 @@ impl Records {
 
     // Bytes that go up by one, modulo 256.
     fn put_rising(&mut self, first: u8, count: u16) -> Result<(), AllocError> {
-        for step in 0..count {
-            let [low, _] = step.to_le_bytes();
-            self.bytes.push(first.wrapping_add(low))?;
-        }
-        Ok(())
+        self.bytes.extend((0..count).map(|step| first.wrapping_add((step % 256) as u8)))
     }
 
     // A record of kind 2: a slot with a chain of so many bytes.

@@ -1,5 +1,5 @@
-// Runs flows on the responder and prints each request with its answer: those headed "paper" are of the rules' own, the numbered
-// ones those of a list of CHALLENGE's test cases, with each version that VERSION has and the flow is for: 6.1 to 6.3 are for
+// Runs flows on the responder and prints each request with its answer: those headed "paper" are the rules' own, the numbered
+// ones a list of CHALLENGE's test cases, with each version that VERSION has and the flow is for: 6.1 to 6.3 are for
 // 1.0 and 1.1, 6.4 to 6.6 for any, the others for 1.2. Of the reading by 34 bytes it prints what the reads come to.
 #![tactic(auto)]
 
@@ -8,11 +8,12 @@ mod connection;
 mod flow;
 mod images;
 mod reading;
+mod request;
 mod show;
 mod signed;
 
 use bench::Bench;
-use connection::{CHALLENGE_LENGTH, Peer, Request, VERSION_11, VERSION_12};
+use request::{Peer, Request, VERSION_11, VERSION_12};
 use std::alloc::Global;
 use std::io;
 
@@ -24,10 +25,8 @@ fn paper_challenge(bench: &Bench<'_, impl Print>) -> io::Result<()> {
         &[Request::Version, Request::Capabilities],
         Peer::new(VERSION_12),
     )?;
-    let mut bytes = [0; CHALLENGE_LENGTH];
-    bytes[1] = Request::Challenge.code();
     for version in [VERSION_12, VERSION_11] {
-        bytes[0] = version;
+        let bytes = Peer::new(version).challenge(&[0; 32]);
         connection.ask(Request::Challenge, &bytes)?;
     }
     Ok(())
@@ -38,7 +37,7 @@ fn paper_smallest(rt: &impl Print, alloc: Global) -> io::Result<()> {
     let smallest = images::smallest(alloc)?;
     let image = smallest.as_slice();
     Bench { rt, image }.version()?;
-    let image = wire::part_of(image, 0, 79);
+    let image = wire::part_of(image, 0, image.len().saturating_sub(1));
     Bench { rt, image }.version()
 }
 
@@ -57,7 +56,10 @@ fn run(rt: &impl Print, alloc: Global) -> io::Result<()> {
     Bench { rt, image }.all_flows()
 }
 
-// What cannot be written is let go, and the status is 0.
-fn main(rt: HostRuntime) {
-    let _ = run(&rt, rt.alloc());
+// Memory that runs out ends the program with an error. A write that fails is let go, with status 0: whoever reads may have seen enough.
+fn main(rt: HostRuntime) -> io::Result<()> {
+    match run(&rt, rt.alloc()) {
+        Err(error) if error.kind() == io::ErrorKind::OutOfMemory => Err(error),
+        _ => Ok(()),
+    }
 }

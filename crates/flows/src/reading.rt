@@ -1,7 +1,8 @@
 // The longest chain, read by the least that a panel asks for. What the reads come to is printed, not each of them.
-use crate::connection::{Connection, Peer, Request, VERSION_12, is_last};
+use crate::connection::{Connection, is_last};
 use crate::flow::NEGOTIATION;
 use crate::images;
+use crate::request::{Peer, VERSION_12};
 use crate::show::Sum;
 use std::alloc::{AllocError, Global};
 use std::io;
@@ -10,7 +11,7 @@ use std::io;
 const CHAIN_START: usize = 43;
 
 // Each read asks for so many bytes.
-const ASKED: u8 = 34;
+const ASKED: u16 = 34;
 
 // Reads that are tried: more than the 482 that may be needed, so that one too many is seen.
 const READS_TRIED: u16 = 1000;
@@ -36,21 +37,13 @@ fn portion_of(answer: &[u8]) -> &[u8] {
 // Reads the chain until no byte remains, each time at the sum of the portions that are held.
 fn read_portions(
     connection: &mut Connection<'_, impl Print>,
+    peer: Peer,
     alloc: Global,
 ) -> Result<Reading, AllocError> {
     let mut chain = Vec::new(alloc);
     for reads in 1..=READS_TRIED {
-        let [low, high, ..] = chain.len().to_le_bytes();
-        let answer = connection.answer_to(&[
-            VERSION_12,
-            Request::Certificate.code(),
-            0,
-            0,
-            low,
-            high,
-            ASKED,
-            0,
-        ]);
+        let offset = u16::try_from(chain.len()).unwrap_or(u16::MAX);
+        let answer = connection.answer_to(&peer.get_certificate(offset, ASKED));
         chain.extend_from_slice(portion_of(answer))?;
         if is_last(answer) {
             return Ok(Reading { reads, chain });
@@ -69,8 +62,9 @@ pub fn paper_longest(rt: &impl Print, alloc: Global) -> io::Result<()> {
     let image = images::longest(alloc)?;
     let bytes = image.as_slice();
     let mut connection = Connection::new(rt, bytes);
-    connection.run(&NEGOTIATION, Peer::new(VERSION_12))?;
-    let Reading { reads, chain } = read_portions(&mut connection, alloc)?;
+    let peer = Peer::new(VERSION_12);
+    connection.run(&NEGOTIATION, peer)?;
+    let Reading { reads, chain } = read_portions(&mut connection, peer, alloc)?;
     println!(rt;
         "  {reads} GET_CERTIFICATE for {ASKED} bytes each -> {}; in the image {}; B has {} bytes",
         Sum(chain.as_slice()),

@@ -1,4 +1,4 @@
-// What is printed of bytes: they in hex, shortened where they are many, or how many there are with their CRC-32.
+// How bytes are printed: in hex, shortened where they are many, or as how many there are with their CRC-32.
 use std::fmt;
 
 // So many bytes are shown of those that have more.
