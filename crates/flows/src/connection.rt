@@ -1,34 +1,19 @@
 // A connection of the bench: requests with their answers, each printed.
-use crate::show::{print, print_bytes, print_number};
-use crate::signed::print_signed;
-use crate::{ANSWER, TRANSCRIPT};
+use crate::images::LONGEST;
+use crate::request::{Peer, Request, VERSION_10, VERSION_11};
+use crate::show::Hex;
+use crate::signed::Signed;
 use rules::{Outcome, Reply, State};
+use std::io;
 
-// The codes of the requests.
-pub const GET_VERSION: u8 = 0x84;
+// The buffers that are lent.
+const TRANSCRIPT: usize = 36864;
 
-pub const GET_CAPABILITIES: u8 = 0xE1;
+const ANSWER: usize = 4608;
 
-pub const NEGOTIATE_ALGORITHMS: u8 = 0xE3;
+const NONCE: [u8; 32] = *b"the responder's nonce, 32 bytes.";
 
-pub const GET_DIGESTS: u8 = 0x81;
-
-pub const GET_CERTIFICATE: u8 = 0x82;
-
-pub const CHALLENGE: u8 = 0x83;
-
-// The versions that a peer can speak.
-pub const VERSION_11: u8 = 0x11;
-
-pub const VERSION_12: u8 = 0x12;
-
-// What a peer's requests have in them: the version that it speaks, the slot, and CHALLENGE's Param2.
-#[derive(Clone, Copy)]
-pub struct Peer {
-    pub version: u8,
-    pub slot: u8,
-    pub summary: u8,
-}
+const SIGNATURE: [u8; 64] = *b"the chip's signature of 64 bytes, which is a pattern for a test.";
 
 // GET_CAPABILITIES, but for its version: both sizes are 4,608.
 const CAPABILITIES: [u8; 20] =
@@ -41,254 +26,174 @@ const CAPABILITIES_11: usize = 12;
 const OFFER: [u8; 32] =
     *b"\x00\xE3\x00\x00\x20\x00\x01\x00\x10\x00\x00\x00\x01\x00\x00\x00\x00\x00\x00\x00\x00\x00\x00\x00\x00\x00\x00\x00\x00\x00\x00\x00";
 
-// The code of the answer to GET_CERTIFICATE.
+const REQUESTER_NONCE: [u8; 32] = *b"the requester's nonce, 32 bytes.";
+
+// The code of the answer to GET_CERTIFICATE, and where it has the length of the remainder.
 const CERTIFICATE: u8 = 0x02;
 
-// A portion of a chain has at most so many bytes, and a chain at most so many portions.
-const PORTION: u16 = 1024;
+const REMAINDER_AT: usize = 6;
 
-const PORTIONS: u16 = 16;
+// Where DIGESTS has the mask of its slots.
+const SLOT_MASK_AT: usize = 3;
 
-// Whose signature the state awaits, 0 for none.
-fn awaited(s: State) -> u32 {
-    let w = s.awaited;
-    w.whose
-}
-
-// What was answered, or the number that the host sees.
-fn print_reply(rt: &impl Print, reply: Reply, answer: &[u8]) {
-    print(rt, b" -> ");
-    match reply {
-        Reply::Number(number) => {
-            print(rt, b"number ");
-            print_number(rt, number as u64);
-        }
-        Reply::Answer(n) => print_bytes(rt, wire::part_of(answer, 0, n)),
-    }
-    print(rt, b"\n");
-}
-
-// Finishes a signed answer; the chip's signature is a fixed pattern.
-fn finish(rt: &impl Print, image: &[u8], s: State, transcript: &[u8], answer: &mut [u8]) -> State {
-    print_signed(rt, s, transcript);
-    let o = signing::finish(
-        image,
-        s,
-        transcript,
-        answer,
-        true,
-        b"the chip's signature of 64 bytes, which is a pattern for a test.",
-    );
-    let reply = o.reply;
-    print_reply(rt, reply, answer);
-    o.state
-}
-
-// Sends a request.
-pub fn exchange(
-    image: &[u8],
-    s: State,
-    transcript: &mut [u8; TRANSCRIPT],
-    answer: &mut [u8; ANSWER],
-    request: &[u8],
-) -> Outcome {
-    responder::respond(
-        image,
-        s,
-        transcript,
-        answer,
-        request,
-        b"the responder's nonce, 32 bytes.",
-    )
-}
-
-// Sends a request, finishes the answer if it is a signed one, and prints both.
-pub fn ask(
-    rt: &impl Print,
-    image: &[u8],
-    s: State,
-    transcript: &mut [u8; TRANSCRIPT],
-    answer: &mut [u8; ANSWER],
-    name: &[u8],
-    request: &[u8],
-) -> State {
-    print(rt, b"  ");
-    print(rt, name);
-    print(rt, b" ");
-    print_bytes(rt, request);
-    let o = exchange(image, s, transcript, answer, request);
-    if awaited(o.state) != 0 {
-        return finish(rt, image, o.state, transcript, answer);
-    }
-    let reply = o.reply;
-    print_reply(rt, reply, answer);
-    o.state
-}
-
-// Sends a GET_CAPABILITIES.
-fn capabilities(
-    rt: &impl Print,
-    image: &[u8],
-    s: State,
-    transcript: &mut [u8; TRANSCRIPT],
-    answer: &mut [u8; ANSWER],
-    version: u8,
-) -> State {
-    let mut request = CAPABILITIES;
-    wire::copy_into(&mut request, 0, &[version]);
-    let length = if version == VERSION_11 {
-        CAPABILITIES_11
-    } else {
-        request.len()
-    };
-    ask(
-        rt,
-        image,
-        s,
-        transcript,
-        answer,
-        b"GET_CAPABILITIES",
-        wire::part_of(&request, 0, length),
-    )
-}
-
-// Sends a NEGOTIATE_ALGORITHMS.
-fn algorithms(
-    rt: &impl Print,
-    image: &[u8],
-    s: State,
-    transcript: &mut [u8; TRANSCRIPT],
-    answer: &mut [u8; ANSWER],
-    version: u8,
-) -> State {
-    let mut request = OFFER;
-    wire::copy_into(&mut request, 0, &[version]);
-    ask(
-        rt,
-        image,
-        s,
-        transcript,
-        answer,
-        b"NEGOTIATE_ALGORITHMS",
-        &request,
-    )
-}
-
-// Sends a CHALLENGE.
-pub fn challenge(
-    rt: &impl Print,
-    image: &[u8],
-    s: State,
-    transcript: &mut [u8; TRANSCRIPT],
-    answer: &mut [u8; ANSWER],
-    peer: Peer,
-) -> State {
-    let mut request = [0u8; 36];
-    wire::copy_into(
-        &mut request,
-        0,
-        &[peer.version, CHALLENGE, peer.slot, peer.summary],
-    );
-    wire::copy_into(&mut request, 4, b"the requester's nonce, 32 bytes.");
-    ask(rt, image, s, transcript, answer, b"CHALLENGE", &request)
-}
+// A portion of a chain has at most so many bytes.
+const PORTION: usize = 1024;
 
 // Whether nothing is left to read behind an answer: it is no CERTIFICATE, or its remainder is 0.
-pub fn read_whole(answer: &[u8]) -> bool {
-    if wire::byte_at(answer, 1) != CERTIFICATE {
-        return true;
-    }
-    wire::get_u16le(answer, 6) == 0
+pub fn is_last(answer: &[u8]) -> bool {
+    wire::byte_at(answer, 1) != CERTIFICATE || wire::get_u16le(answer, REMAINDER_AT) == 0
 }
 
-// Reads a slot's chain to its end, each time with the largest length.
-fn read_chain(
-    rt: &impl Print,
-    image: &[u8],
-    s: State,
-    transcript: &mut [u8; TRANSCRIPT],
-    answer: &mut [u8; ANSWER],
-    peer: Peer,
-) -> State {
-    let mut after = s;
-    for k in 0..PORTIONS {
-        let offset = k * PORTION;
-        after = ask(
+// A requester's connection to the responder with an image; what is said goes to `rt`.
+#[derive(Drop)]
+pub struct Connection<'a, P: Print> {
+    rt: &'a P,
+    image: &'a [u8],
+    state: State,
+    transcript: [u8; TRANSCRIPT],
+    answer: [u8; ANSWER],
+}
+
+impl<'a, P: Print> Connection<'a, P> {
+    // A fresh one, on which nothing was said.
+    pub fn new(rt: &'a P, image: &'a [u8]) -> Self {
+        Connection {
             rt,
             image,
-            after,
-            transcript,
-            answer,
-            b"GET_CERTIFICATE",
-            &[
-                peer.version,
-                GET_CERTIFICATE,
-                peer.slot,
-                0,
-                (offset % 256) as u8,
-                (offset / 256) as u8,
-                0xFF,
-                0xFF,
-            ],
-        );
-        if read_whole(answer) {
-            break;
+            state: state::fresh(),
+            transcript: [0; TRANSCRIPT],
+            answer: [0; ANSWER],
         }
     }
-    after
-}
 
-// Sends the request of a code.
-fn send(
-    rt: &impl Print,
-    image: &[u8],
-    s: State,
-    transcript: &mut [u8; TRANSCRIPT],
-    answer: &mut [u8; ANSWER],
-    code: u8,
-    peer: Peer,
-) -> State {
-    match code {
-        GET_VERSION => ask(
-            rt,
-            image,
-            s,
-            transcript,
-            answer,
-            b"GET_VERSION",
-            b"\x10\x84\x00\x00",
-        ),
-        GET_CAPABILITIES => capabilities(rt, image, s, transcript, answer, peer.version),
-        NEGOTIATE_ALGORITHMS => algorithms(rt, image, s, transcript, answer, peer.version),
-        GET_DIGESTS => ask(
-            rt,
-            image,
-            s,
-            transcript,
-            answer,
-            b"GET_DIGESTS",
-            &[peer.version, GET_DIGESTS, 0, 0],
-        ),
-        GET_CERTIFICATE => read_chain(rt, image, s, transcript, answer, peer),
-        _ => challenge(rt, image, s, transcript, answer, peer),
+    // Goes on from what the responder came to: the answer's length, or the number that the host sees.
+    fn take(&mut self, outcome: Outcome) -> Result<usize, u32> {
+        self.state = outcome.state;
+        match outcome.reply {
+            Reply::Number(number) => Err(number),
+            Reply::Answer(length) => Ok(length),
+        }
     }
-}
 
-// Sends a run of requests, each by its code.
-pub fn run(
-    rt: &impl Print,
-    image: &[u8],
-    s: State,
-    transcript: &mut [u8; TRANSCRIPT],
-    answer: &mut [u8; ANSWER],
-    codes: &[u8],
-    peer: Peer,
-) -> State {
-    let mut after = s;
-    let mut i = 0;
-    while i < codes.len() {
-        after = send(rt, image, after, transcript, answer, codes[i], peer);
-        i += 1;
+    // Sends a request.
+    fn exchange(&mut self, request: &[u8]) -> Result<usize, u32> {
+        let outcome = responder::respond(
+            self.image,
+            self.state,
+            &mut self.transcript,
+            &mut self.answer,
+            request,
+            &NONCE,
+        );
+        self.take(outcome)
     }
-    after
+
+    // Finishes a signed answer; the chip's signature is a fixed pattern.
+    fn finish(&mut self) -> Result<usize, u32> {
+        let outcome = signing::finish(
+            self.image,
+            self.state,
+            &self.transcript,
+            &mut self.answer,
+            true,
+            &SIGNATURE,
+        );
+        self.take(outcome)
+    }
+
+    // Whether the chip's signature is awaited.
+    fn is_unsigned(&self) -> bool {
+        self.state.awaited.whose != 0
+    }
+
+    // How many bytes of B are used.
+    pub fn used_b(&self) -> u32 {
+        self.state.used.b
+    }
+
+    // The mask of the slots that DIGESTS names, where that was the last answer.
+    pub fn slot_mask(&self) -> u8 {
+        self.answer[SLOT_MASK_AT]
+    }
+
+    // Sends a request with nothing printed: the answer's bytes, none beside a number for the host.
+    pub fn answer_to(&mut self, bytes: &[u8]) -> &[u8] {
+        let length = self.exchange(bytes).unwrap_or(0);
+        wire::part_of(&self.answer, 0, length)
+    }
+
+    // Sends a request, finishes the answer if it is a signed one, and prints both.
+    pub fn ask(&mut self, request: Request, bytes: &[u8]) -> io::Result<()> {
+        print!(self.rt; "  {request} {}", Hex(bytes))?;
+        let mut reply = self.exchange(bytes);
+        if self.is_unsigned() {
+            let signed = Signed {
+                state: self.state,
+                transcript: &self.transcript,
+            };
+            print!(self.rt; " {signed}")?;
+            reply = self.finish();
+        }
+        match reply {
+            Ok(length) => {
+                println!(self.rt; " -> {}", Hex(wire::part_of(&self.answer, 0, length)))
+            }
+            Err(number) => println!(self.rt; " -> number {number}"),
+        }
+    }
+
+    // Sends a GET_CAPABILITIES.
+    fn capabilities(&mut self, version: u8) -> io::Result<()> {
+        let mut bytes = CAPABILITIES;
+        bytes[0] = version;
+        if version == VERSION_11 {
+            self.ask(Request::Capabilities, &bytes[..CAPABILITIES_11])
+        } else {
+            self.ask(Request::Capabilities, &bytes)
+        }
+    }
+
+    // Sends a NEGOTIATE_ALGORITHMS.
+    fn algorithms(&mut self, version: u8) -> io::Result<()> {
+        let mut bytes = OFFER;
+        bytes[0] = version;
+        self.ask(Request::Algorithms, &bytes)
+    }
+
+    // Sends a CHALLENGE.
+    pub fn challenge(&mut self, peer: Peer) -> io::Result<()> {
+        self.ask(Request::Challenge, &peer.challenge(&REQUESTER_NONCE))
+    }
+
+    // Reads a slot's chain to its end, each time with the largest length.
+    fn read_chain(&mut self, peer: Peer) -> io::Result<()> {
+        for offset in (0..LONGEST).step_by(PORTION) {
+            let bytes = peer.get_certificate(offset, u16::MAX);
+            self.ask(Request::Certificate, &bytes)?;
+            if is_last(&self.answer) {
+                break;
+            }
+        }
+        Ok(())
+    }
+
+    // Sends a request, a GET_CERTIFICATE until the chain is read.
+    fn send(&mut self, request: Request, peer: Peer) -> io::Result<()> {
+        match request {
+            Request::Version => self.ask(request, &[VERSION_10, request.code(), 0, 0]),
+            Request::Digests => self.ask(request, &[peer.version, request.code(), 0, 0]),
+            Request::Capabilities => self.capabilities(peer.version),
+            Request::Algorithms => self.algorithms(peer.version),
+            Request::Certificate => self.read_chain(peer),
+            Request::Challenge => self.challenge(peer),
+        }
+    }
+
+    // Sends a run of requests.
+    pub fn run(&mut self, requests: &[Request], peer: Peer) -> io::Result<()> {
+        for &request in requests {
+            self.send(request, peer)?;
+        }
+        Ok(())
+    }
 }

@@ -1,94 +1,92 @@
 // The images that the flows run on, put together record by record. All have CTExponent 14, SHA-256 and P-256.
+use std::alloc::{AllocError, Global};
 
-// The bytes of the longest chain, and of those behind its own length and two reserved bytes.
+// The bytes of the longest chain, of the shortest, and of what a chain starts with: its own length and two reserved bytes.
 pub const LONGEST: u16 = 16384;
 
-const LONGEST_REST: u16 = LONGEST - 4;
+const SHORTEST: u16 = 37;
 
-// Puts bytes from a place on, and answers where they end.
-pub fn put(out: &mut [u8], at: usize, bytes: &[u8]) -> usize {
-    wire::copy_into(out, at, bytes);
-    if usize::MAX - at < bytes.len() {
-        return at;
+const CHAIN_HEAD: u16 = 4;
+
+// What a chain's record has beside the chain: the slot and a digest.
+const SLOT_AND_DIGEST: u16 = 33;
+
+const DIGEST: u16 = 32;
+
+// The bytes of an image, up to the record that was put last.
+#[derive(Drop)]
+struct Records {
+    bytes: Vec<u8>,
+}
+
+impl Records {
+    // The version, and the record of kind 1.
+    fn new(alloc: Global) -> Result<Self, AllocError> {
+        let bytes = Vec::from_slice(alloc, b"\x01\x00\x03\x01\x0E\x00\x04")?;
+        Ok(Records { bytes })
     }
-    at + bytes.len()
-}
 
-// Bytes that go up by one, modulo 256.
-fn put_rising(out: &mut [u8], at: usize, first: u8, count: u16) -> usize {
-    let mut end = at;
-    let mut b = first;
-    for k in 0..count {
-        end = put(out, end, &[b]);
-        b = std::num::wrapping_add_u8(b, 1);
+    // Bytes that go up by one, modulo 256.
+    fn put_rising(&mut self, first: u8, count: u16) -> Result<(), AllocError> {
+        self.bytes.extend((0..count).map(|step| first.wrapping_add((step % 256) as u8)))
     }
-    end
-}
 
-// The version, and the record of kind 1.
-fn put_identity(out: &mut [u8]) -> usize {
-    put(out, 0, b"\x01\x00\x03\x01\x0E\x00\x04")
-}
+    // A record of kind 2: a slot with a chain of so many bytes.
+    fn put_chain(&mut self, slot: u8, length: u16) -> Result<(), AllocError> {
+        let [high, low] = length.wrapping_add(SLOT_AND_DIGEST).to_be_bytes();
+        self.bytes.extend_from_slice(&[high, low, 2, slot])?;
+        self.put_rising(slot, DIGEST)?;
+        let [low, high] = length.to_le_bytes();
+        self.bytes.extend_from_slice(&[low, high, 0, 0])?;
+        self.put_rising(slot, length.saturating_sub(CHAIN_HEAD))
+    }
 
-// A record of kind 2: a slot with a chain of so many bytes behind its own length and two reserved bytes.
-fn put_chain(out: &mut [u8], at: usize, slot: u8, rest: u16) -> usize {
-    let length = rest as u32 + 4;
-    let body = length + 33;
-    let head = put(
-        out,
-        at,
-        &[(body / 256 % 256) as u8, (body % 256) as u8, 2, slot],
-    );
-    let digest = put_rising(out, head, slot, 32);
-    let own = put(
-        out,
-        digest,
-        &[(length % 256) as u8, (length / 256 % 256) as u8, 0, 0],
-    );
-    put_rising(out, own, slot, rest)
-}
+    // A record of kind 3.
+    fn put_measurement(&mut self, index: u8, kind: u8) -> Result<(), AllocError> {
+        self.bytes.extend_from_slice(&[0, 34, 3, index, kind])?;
+        self.put_rising(index, DIGEST)
+    }
 
-// A record of kind 3.
-fn put_measurement(out: &mut [u8], at: usize, index: u8, kind: u8) -> usize {
-    let digest = put(out, at, &[0, 34, 3, index, kind]);
-    put_rising(out, digest, index, 32)
-}
-
-// The record of kind 4.
-fn put_summaries(out: &mut [u8], at: usize) -> usize {
-    let tcb = put(out, at, b"\x00\x40\x04");
-    let all = put_rising(out, tcb, 100, 32);
-    put_rising(out, all, 150, 32)
+    // The record of kind 4.
+    fn put_summaries(&mut self) -> Result<(), AllocError> {
+        self.bytes.extend_from_slice(b"\x00\x40\x04")?;
+        self.put_rising(100, DIGEST)?;
+        self.put_rising(150, DIGEST)
+    }
 }
 
 // The image of the bench: slot 0 with L = 100, one measurement.
-pub fn bench(out: &mut [u8]) -> usize {
-    let chain = put_identity(out);
-    let measurement = put_chain(out, chain, 0, 96);
-    let summaries = put_measurement(out, measurement, 1, 0);
-    put_summaries(out, summaries)
+pub fn bench(alloc: Global) -> Result<Vec<u8>, AllocError> {
+    let mut records = Records::new(alloc)?;
+    records.put_chain(0, 100)?;
+    records.put_measurement(1, 0)?;
+    records.put_summaries()?;
+    Ok(records.bytes)
 }
 
 // Three slots, one of them with the longest chain, and three measurements.
-pub fn full(out: &mut [u8]) -> usize {
-    let slot0 = put_identity(out);
-    let slot2 = put_chain(out, slot0, 0, 33);
-    let slot7 = put_chain(out, slot2, 2, LONGEST_REST);
-    let first = put_chain(out, slot7, 7, 1020);
-    let second = put_measurement(out, first, 1, 0);
-    let third = put_measurement(out, second, 16, 3);
-    let summaries = put_measurement(out, third, 239, 1);
-    put_summaries(out, summaries)
+pub fn full(alloc: Global) -> Result<Vec<u8>, AllocError> {
+    let mut records = Records::new(alloc)?;
+    records.put_chain(0, SHORTEST)?;
+    records.put_chain(2, LONGEST)?;
+    records.put_chain(7, 1024)?;
+    records.put_measurement(1, 0)?;
+    records.put_measurement(16, 3)?;
+    records.put_measurement(239, 1)?;
+    records.put_summaries()?;
+    Ok(records.bytes)
 }
 
 // The smallest image: slot 0 with the shortest chain.
-pub fn smallest(out: &mut [u8]) -> usize {
-    let chain = put_identity(out);
-    put_chain(out, chain, 0, 33)
+pub fn smallest(alloc: Global) -> Result<Vec<u8>, AllocError> {
+    let mut records = Records::new(alloc)?;
+    records.put_chain(0, SHORTEST)?;
+    Ok(records.bytes)
 }
 
 // Slot 0 with the longest chain.
-pub fn longest(out: &mut [u8]) -> usize {
-    let chain = put_identity(out);
-    put_chain(out, chain, 0, LONGEST_REST)
+pub fn longest(alloc: Global) -> Result<Vec<u8>, AllocError> {
+    let mut records = Records::new(alloc)?;
+    records.put_chain(0, LONGEST)?;
+    Ok(records.bytes)
 }

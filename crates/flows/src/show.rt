@@ -1,17 +1,11 @@
-// What is printed: bytes in hex, shortened where they are many, and how many bytes there are with their CRC-32.
+// How bytes are printed: in hex, shortened where they are many, or as how many there are with their CRC-32.
+use std::fmt;
+
 // So many bytes are shown of those that have more.
 const SHOWN: usize = 36;
 
 // The polynomial of IEEE 802.3, lowest bit first.
-const POLYNOMIAL: u32 = 3988292384;
-
-pub fn print(rt: &impl Print, text: &[u8]) {
-    let _ = rt.write_all(text);
-}
-
-pub fn print_number(rt: &impl Print, n: u64) {
-    let _ = rt.print(n);
-}
+const POLYNOMIAL: u32 = 0xEDB8_8320;
 
 // One bit further: the remainder's lowest bit goes out.
 fn step(crc: u32) -> u32 {
@@ -22,41 +16,41 @@ fn step(crc: u32) -> u32 {
     }
 }
 
-fn next(crc: u32, b: u8) -> u32 {
-    let mixed = crc ^ (b as u32);
-    step(step(step(step(step(step(step(step(mixed))))))))
+fn next(crc: u32, byte: u8) -> u32 {
+    (0..u8::BITS).fold(crc ^ u32::from(byte), |rest, _| step(rest))
 }
 
-fn crc32(s: &[u8]) -> u32 {
-    let mut crc: u32 = 4294967295;
-    for i in 0..s.len() {
-        crc = next(crc, s[i]);
-    }
-    crc ^ 4294967295
+fn crc32(bytes: &[u8]) -> u32 {
+    !bytes.iter().fold(u32::MAX, |crc, &byte| next(crc, byte))
 }
 
 // How many bytes there are, and their CRC-32.
-pub fn print_sum(rt: &impl Print, bytes: &[u8]) {
-    print_number(rt, bytes.len() as u64);
-    print(rt, b" bytes, CRC-32 ");
-    let _ = print!(rt; "{:08x}", crc32(bytes));
-}
+#[derive(Clone, Copy)]
+pub struct Sum<'a>(pub &'a [u8]);
 
-fn print_hex(rt: &impl Print, bytes: &[u8]) {
-    for i in 0..bytes.len() {
-        let _ = print!(rt; "{:02x}", bytes[i]);
+impl fmt::Display for Sum<'_> {
+    fn fmt<W: fmt::Write>(&self, f: &mut fmt::Formatter<W>) -> fmt::Result {
+        let Sum(bytes) = *self;
+        write!(f, "{} bytes, CRC-32 {:08x}", bytes.len(), crc32(bytes))
     }
 }
 
 // Bytes in hex; of many, the first, and the sum of all.
-pub fn print_bytes(rt: &impl Print, bytes: &[u8]) {
-    if bytes.len() == 0 {
-        print(rt, b"-");
-    }
-    print_hex(rt, wire::part_of(bytes, 0, SHOWN));
-    if SHOWN < bytes.len() {
-        print(rt, b".. (");
-        print_sum(rt, bytes);
-        print(rt, b")");
+#[derive(Clone, Copy)]
+pub struct Hex<'a>(pub &'a [u8]);
+
+impl fmt::Display for Hex<'_> {
+    fn fmt<W: fmt::Write>(&self, f: &mut fmt::Formatter<W>) -> fmt::Result {
+        let Hex(bytes) = *self;
+        if bytes.is_empty() {
+            return write!(f, "-");
+        }
+        for byte in bytes.iter().take(SHOWN) {
+            write!(f, "{byte:02x}")?;
+        }
+        if SHOWN < bytes.len() {
+            write!(f, ".. ({})", Sum(bytes))?;
+        }
+        Ok(())
     }
 }
