@@ -3,7 +3,7 @@ use crate::images::LONGEST;
 use crate::request::{Peer, Request, VERSION_10, VERSION_11};
 use crate::show::Hex;
 use crate::signed::Signed;
-use rules::{Outcome, Reply, State};
+use rules::{HostError, Outcome, State};
 use std::io;
 
 // The buffers that are lent.
@@ -66,17 +66,14 @@ impl<'a, P: Print> Connection<'a, P> {
         }
     }
 
-    // Goes on from what the responder came to: the answer's length, or the number that the host sees.
-    fn take(&mut self, outcome: Outcome) -> Result<usize, u32> {
+    // Goes on from what the responder came to: the answer's length, or what the host is told in its place.
+    fn take(&mut self, outcome: Outcome) -> Result<usize, HostError> {
         self.state = outcome.state;
-        match outcome.reply {
-            Reply::Number(number) => Err(number),
-            Reply::Answer(length) => Ok(length),
-        }
+        outcome.reply
     }
 
     // Sends a request.
-    fn exchange(&mut self, request: &[u8]) -> Result<usize, u32> {
+    fn exchange(&mut self, request: &[u8]) -> Result<usize, HostError> {
         let outcome = responder::respond(
             self.image,
             self.state,
@@ -89,7 +86,7 @@ impl<'a, P: Print> Connection<'a, P> {
     }
 
     // Finishes a signed answer; the chip's signature is a fixed pattern.
-    fn finish(&mut self) -> Result<usize, u32> {
+    fn finish(&mut self) -> Result<usize, HostError> {
         let outcome = signing::finish(
             self.image,
             self.state,
@@ -138,7 +135,7 @@ impl<'a, P: Print> Connection<'a, P> {
             Ok(length) => {
                 println!(self.rt; " -> {}", Hex(wire::part_of(&self.answer, 0, length)))
             }
-            Err(number) => println!(self.rt; " -> number {number}"),
+            Err(error) => println!(self.rt; " -> number {}", error.number()),
         }
     }
 

@@ -2,7 +2,8 @@
 #![tactic(auto)]
 
 use image::limits::{IMAGE_LIMIT, SLOT_LIMIT};
-use image::{Index, SlotCheck, SlotNumber, Verdict};
+use image::{Fault, SlotNumber};
+use image_lookup::Image;
 use std::io::Read;
 use std::{fmt, io};
 
@@ -26,39 +27,22 @@ const SIGNATURES: [&str; 9] = [
     "ECDSA-P521",
 ];
 
-// What the paper says of a number.
-fn meaning(number: u8) -> &'static str {
-    match number {
-        1 => "image empty or over 61440 bytes",
-        2 => "byte 0 is not 1",
-        3 => "1 or 2 bytes left for a record head, or body runs past the end",
-        4 => "kind unknown or out of sequence, or a needed record missing",
-        5 => "a 9th chain or 33rd measurement",
-        6 => "body length wrong",
-        7 => "a field out of range, slot or index not rising, or first slot not 0",
-        8 => "chain's own length field differs",
-        _ => "not a number of the image",
+// What a refusal means.
+fn meaning(fault: Fault) -> &'static str {
+    match fault {
+        Fault::WrongSize => "image empty or over 61440 bytes",
+        Fault::WrongVersion => "byte 0 is not 1",
+        Fault::BrokenRecord => "1 or 2 bytes left for a record head, or body runs past the end",
+        Fault::WrongKind => "kind unknown or out of sequence, or a needed record missing",
+        Fault::TooMany => "a 9th chain or 33rd measurement",
+        Fault::WrongLength => "body length wrong",
+        Fault::WrongField => "a field out of range, slot or index not rising, or first slot not 0",
+        Fault::WrongOwnLength => "chain's own length field differs",
     }
 }
 
 fn name(names: &[&'static str], bit: u8) -> &'static str {
     names.get(usize::from(bit)).copied().unwrap_or("unknown")
-}
-
-fn slot_number(k: u8) -> Option<SlotNumber> {
-    match image::slot_number(k) {
-        SlotCheck::Slot(slot) => Some(slot),
-        SlotCheck::OutOfRange => None,
-    }
-}
-
-// The index of an image, or the number of its first fault.
-fn read(image: &[u8]) -> Result<Index, u8> {
-    let read = image_reader::read_image(image);
-    match read.verdict {
-        Verdict::Accepted => Ok(read.index),
-        Verdict::Refused(number) => Err(number),
-    }
 }
 
 // Bytes in hex.
@@ -76,14 +60,11 @@ impl fmt::Display for Hex<'_> {
 
 // An accepted image.
 #[derive(Clone, Copy)]
-struct Contents<'a> {
-    image: &'a [u8],
-    index: Index,
-}
+struct Contents<'a>(Image<'a>);
 
 impl Contents<'_> {
     fn print_identity(&self, rt: &impl Print) -> io::Result<()> {
-        let id = self.index.identity;
+        let id = self.0.index.identity;
         println!(rt; "CTExponent {}", id.exponent)?;
         println!(rt;
             "hash {} (bit {}, digests of {} bytes)",
@@ -101,12 +82,12 @@ impl Contents<'_> {
 
     fn print_slots(&self, rt: &impl Print) -> io::Result<()> {
         for k in 0..=SLOT_LIMIT {
-            let Some(slot) = slot_number(k) else {
+            let Some(slot) = SlotNumber::new(k) else {
                 continue;
             };
-            let length = image_lookup::chain_length(self.image, self.index, slot);
+            let length = self.0.chain_length(slot);
             if length > 0 {
-                let digest = Hex(image_lookup::digest(self.image, self.index, slot));
+                let digest = Hex(self.0.digest(slot));
                 println!(rt; "slot {k}: chain of {length} bytes, digest {digest}")?;
             }
         }
@@ -115,10 +96,8 @@ impl Contents<'_> {
 
     // A measurement is its index, its type and its digest.
     fn print_measurements(&self, rt: &impl Print) -> io::Result<()> {
-        for k in 0..usize::from(self.index.measurements) {
-            if let [index, kind, digest @ ..] = image_lookup::nth_measurement(
-                self.image, self.index, k,
-            ) {
+        for k in 0..usize::from(self.0.index.measurements) {
+            if let [index, kind, digest @ ..] = self.0.nth_measurement(k) {
                 println!(rt; "measurement {index}: type {kind}, digest {}", Hex(digest))?;
             }
         }
@@ -128,31 +107,25 @@ impl Contents<'_> {
     fn print(&self, rt: &impl Print) -> io::Result<()> {
         self.print_identity(rt)?;
         self.print_slots(rt)?;
-        if self.index.measurements == 0 {
+        if self.0.index.measurements == 0 {
             return Ok(());
         }
         self.print_measurements(rt)?;
-        println!(rt;
-            "summary of the TCB {}",
-            Hex(image_lookup::tcb_summary(self.image, self.index))
-        )?;
-        println!(rt;
-            "summary of all {}",
-            Hex(image_lookup::full_summary(self.image, self.index))
-        )
+        println!(rt; "summary of the TCB {}", Hex(self.0.tcb_summary()))?;
+        println!(rt; "summary of all {}", Hex(self.0.full_summary()))
     }
 }
 
-fn print_image(rt: &impl Print, image: &[u8]) -> io::Result<()> {
-    let length = image.len();
+fn print_image(rt: &impl Print, bytes: &[u8]) -> io::Result<()> {
+    let length = bytes.len();
     let more = if length == MOST { " or more" } else { "" };
     print!(rt; "image of {length} bytes{more}")?;
-    match read(image) {
+    match image_reader::read_image(bytes) {
         Ok(index) => {
             println!(rt; ": accepted")?;
-            Contents { image, index }.print(rt)
+            Contents(Image { bytes, index }).print(rt)
         }
-        Err(number) => println!(rt; "\nrefused: {number} ({})", meaning(number)),
+        Err(fault) => println!(rt; "\nrefused: {} ({})", fault.number(), meaning(fault)),
     }
 }
 
