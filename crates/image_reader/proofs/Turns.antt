@@ -294,4 +294,4 @@ pub reached-run : {b : List ℕ} {c₀ : Contents} {from : ℕ} {w : Seen} {p : 
 reached-run r m run = (ran r m run).reached
 
 -- what the walk needs of its turns
-pub ruleset turns = (reached-first, reached-refused, reached-end, reached-next, reached-run, run-onward, good-within, good-slot, good-measuring)
+pub ruleset turns = (reached-first, run-onward, good-within, good-slot, good-measuring)

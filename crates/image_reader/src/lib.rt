@@ -80,27 +80,32 @@ fn read_record(s: &[u8], at: usize, w: Seen) -> Result<Option<Record>, Fault>
 // Keeps where a chain's body starts. In place: an array that is made anew for each record is copied for each, and the copy waits for
 // the entry written before it.
 #[tactic(auto, using(wire::proofs::Picks::picks))]
-fn place_chain(bodies: &mut [u16; 8], kind: u8, slot: u8, start: usize)
-    requires { (start ≤ image_limit) × (kind ≡ chain_kind → slot ≤ slot_limit) }
-    ensures { bodies.new ≡ bodies_after bodies.old kind slot start }
+fn place_chain(bodies: &mut [u16; 8], frame: Frame, slot: u8)
+    requires { (frame.start ≤ image_limit) × (frame.kind ≡ chain_kind → slot ≤ slot_limit) }
+    ensures { bodies.new ≡ bodies_after bodies.old frame.kind slot frame.start }
 {
-    if kind == CHAIN_KIND {
-        bodies[usize::from(slot)] = start as u16;
+    if frame.kind == CHAIN_KIND {
+        bodies[usize::from(slot)] = frame.start as u16;
     }
 }
 
 // Where the first measurement's body starts: a later one does not move it.
 #[tactic(auto, using(wire::proofs::Picks::picks))]
-fn first_after(first: u16, w: Seen, kind: u8, start: usize) -> u16
-    requires { start ≤ image_limit }
-    ensures { result ≡ first_after first w kind start }
+fn first_after(first: u16, w: Seen, frame: Frame) -> u16
+    requires { frame.start ≤ image_limit }
+    ensures { result ≡ first_after first w frame.kind frame.start }
 {
-    if kind == MEASUREMENT_KIND && w.measurements == 0 {
-        start as u16
+    if frame.kind == MEASUREMENT_KIND && w.measurements == 0 {
+        frame.start as u16
     } else {
         first
     }
 }
+
+// In a head as one number, the body's first byte counts by one.
+const KIND_UNIT: usize = 256;
+
+const LENGTH_UNIT: usize = 65536;
 
 // Length, kind and the body's first byte of the record at a place, as one number.
 fn head_at(s: &[u8], at: usize) -> usize
@@ -118,19 +123,17 @@ fn run_from(s: &[u8], from: usize, w: Seen) -> (usize, Seen)
 {
     let size = usize::from(w.size);
     let stride = HEAD_LENGTH + (LABEL_LENGTH + size);
-    // The head of such a record, its index left off.
-    let base = (LABEL_LENGTH + size) * 65536 + usize::from(MEASUREMENT_KIND) * 256;
-    let room = usize::from(MEASUREMENTS_LIMIT - w.measurements) * stride;
-    let end = s.len().min(from + room);
+    // The heads of such records: without an index, and with the highest.
+    let base = (LABEL_LENGTH + size) * LENGTH_UNIT + usize::from(MEASUREMENT_KIND) * KIND_UNIT;
+    let top = base + usize::from(INDEX_LIMIT);
+    let left = usize::from(MEASUREMENTS_LIMIT - w.measurements);
+    let end = s.len().min(from + left * stride);
     let mut at = from;
     let mut n = w.measurements;
     let mut last = base + usize::from(w.index);
     while at + stride <= end {
         let head = head_at(s, at);
-        if head <= last || base + usize::from(INDEX_LIMIT) < head {
-            break;
-        }
-        if TYPE_LIMIT < s[at + HEAD_LENGTH + 1] {
+        if head <= last || top < head || TYPE_LIMIT < s[at + HEAD_LENGTH + 1] {
             break;
         }
         last = head;
@@ -169,8 +172,8 @@ fn walk(s: &[u8], identity: Identity) -> Result<Index, Fault>
                 first,
             });
         };
-        place_chain(&mut bodies, frame.kind, next.slot, frame.start);
-        first = first_after(first, w, frame.kind, frame.start);
+        place_chain(&mut bodies, frame, next.slot);
+        first = first_after(first, w, frame);
         w = next;
         at = frame.end;
         if frame.kind == MEASUREMENT_KIND {
