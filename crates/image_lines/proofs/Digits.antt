@@ -1,15 +1,10 @@
 -- Of hex digits, and of the byte that two of them make. Assumes nothing.
-use mathlib.Core.Path.{◌≡◌, sym}
-use mathlib.Core.Bool.{true, false}
-use mathlib.Core.List.{List}
-use Prim.Native.Nat.{ℕ, ◌+◌, ◌≤◌, ◌<◌}
+use mathlib.Core.Path.{◌≡◌}
+use Prim.Native.Nat.{ℕ, ◌<◌}
 use native.Mathlib.Omega.{arith}
 use Rattle.std.specs.Prelude.{Option, Some, None}
-use lib.ListN.{length, set}
 use lib.Seq.{set_out}
-use lib.Dec.{ltb}
 use borrow.Author.Tests.{lt-ltb, le-ltb, leb-true}
-use Rattle.wire.specs.Pick.{pick}
 use Rattle.wire.proofs.Picks.{either}
 use Rattle.image_lines.specs.Lines.{digit_of}
 

@@ -140,11 +140,7 @@ fn record_in(b: &[u8]) -> Record<'_>
 }
 
 // What the lines come to past one more, of these bytes, and the image with what it adds.
-fn end_line(
-    lines: Option<Result<Draft, Fault>>,
-    b: &[u8],
-    image: &mut [u8],
-) -> Result<Draft, Fault>
+fn end_line(lines: Option<Result<Draft, Fault>>, b: &[u8], image: &mut [u8]) -> Result<Draft, Fault>
     ensures { (told result ≡ draft_after (drafted lines) b.now)
         × (image.new ≡ image_after (drafted lines) b.now image.old) }
 {
