@@ -23,7 +23,8 @@ line_room = 1 + (1 + digest_most + chain_limit) + 1
 abbrev pub no_line : Option Line
 no_line = Some (record { first = None; count = 0 })
 
--- A line, and the room that its bytes are kept in, past one more character: a byte's first digit waits for the second. A malformed line stays one.
+-- A line, and the room that its bytes are kept in, past one more character: a byte's first digit waits for the second. A malformed line
+-- stays one.
 abbrev pub byte_kept : ℕ → ℕ → Option ℕ → Option Line
 byte_kept n room None = None
 byte_kept n room (Some b) = Some (record { first = None; count = pick (ltb n room) (n + 1) n })

@@ -29,7 +29,7 @@ const LINE_ROOM: usize = 1 + (1 + DIGEST_MOST + CHAIN_LIMIT) + 1;
 
 // What has come of a line: the first digit of a byte whose second is to come, and how many bytes are kept.
 #[derive(Clone, Copy)]
-pub struct Line {
+struct Line {
     first: Option<u8>,
     count: usize,
 }
@@ -39,8 +39,8 @@ const NEW_LINE: Line = Line {
     count: 0,
 };
 
-// What has come of a text: what the lines that have ended come to, nothing before the first has; and the line that has not, nothing where it is
-// malformed.
+// What has come of a text: what the lines that have ended come to, nothing before the first has; and the line that has not, nothing where
+// it is malformed.
 #[derive(Clone, Copy)]
 pub struct Text {
     draft: Option<Result<Draft, Fault>>,
