@@ -3,6 +3,7 @@ use mathlib.Core.Path.{◌≡◌, refl}
 use mathlib.Core.List.{List, [], ◌∷◌, ◌++◌, map}
 use Prim.Native.Nat.{ℕ, zero, suc}
 use lib.ListN.{replicate}
+use Rattle.std.specs.Prelude.{Some, None}
 use Rattle.wire.specs.Pick.{pick}
 use Rattle.image.specs.Sizes.{digest_size}
 use Rattle.image.specs.Contents.{record_bytes}
@@ -66,7 +67,10 @@ faults = refl
 
 -- the first and last of 0 to 9, A to F, a to f, each with the characters beside them; room for a kind, 1+64+16,384 bytes and one more
 digits :
-    map digit_of (47 ∷ 48 ∷ 57 ∷ 58 ∷ 64 ∷ 65 ∷ 70 ∷ 71 ∷ 96 ∷ 97 ∷ 102 ∷ 103 ∷ []) ++ (line_room ∷ [])
-    ≡ 16 ∷ 0 ∷ 9 ∷ 16 ∷ 16 ∷ 10 ∷ 15 ∷ 16 ∷ 16 ∷ 10 ∷ 15 ∷ 16 ∷ 16451 ∷ []
+    map digit_of (47 ∷ 48 ∷ 57 ∷ 58 ∷ 64 ∷ 65 ∷ 70 ∷ 71 ∷ 96 ∷ 97 ∷ 102 ∷ 103 ∷ [])
+    ≡ None ∷ Some 0 ∷ Some 9 ∷ None ∷ None ∷ Some 10 ∷ Some 15 ∷ None ∷ None ∷ Some 10 ∷ Some 15 ∷ None ∷ []
 unfolding digit_of pick
 digits = refl
+
+room : line_room ≡ 16451
+room = refl

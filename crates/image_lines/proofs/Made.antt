@@ -1,23 +1,28 @@
 -- What lines make, one after the other: the draft and the image past each. The text's machine is held against it. Assumes nothing.
-use mathlib.Core.Bool.{Bool, true}
 use mathlib.Core.List.{List, [], ◌∷◌}
 use Prim.Native.Nat.{ℕ}
-use Rattle.image_writer.specs.declared.Draft.{Draft}
+use Rattle.std.specs.Prelude.{Option, Some, None}
+use Rattle.image.specs.Reading.{Result}
+use Rattle.image_writer.specs.declared.drafting.Draft.{Draft}
 use Rattle.image_lines.specs.Lines.{decoded, bytes_of}
 use Rattle.image_lines.specs.Taking.{Taking, draft_after, image_after}
 
 pub record Made : Type 0 where
-  pub draft : Draft
+  pub draft : Option (Result Draft)
   pub image : List ℕ
 
 abbrev pub made_in : Taking → Made
-made_in t = record { draft = t.text.draft; image = t.image }
+made_in t = record { draft = t.draft; image = t.image }
+
+-- before the first line
+abbrev pub nothing_made : List ℕ → Made
+nothing_made image = record { draft = None; image = image }
 
 -- past a line's bytes
-abbrev pub made_after : Bool → Made → List ℕ → Made
-made_after opened m b = record { draft = draft_after opened m.draft b; image = image_after opened m.draft b m.image }
+abbrev pub made_after : Made → List ℕ → Made
+made_after m b = record { draft = Some (draft_after m.draft b); image = image_after m.draft b m.image }
 
 -- past lines
-abbrev pub made_by : Bool → Made → List (List ℕ) → Made
-made_by opened m [] = m
-made_by opened m (l ∷ ls) = made_by true (made_after opened m (bytes_of (decoded l))) ls
+abbrev pub made_by : Made → List (List ℕ) → Made
+made_by m [] = m
+made_by m (l ∷ ls) = made_by (made_after m (bytes_of (decoded l))) ls

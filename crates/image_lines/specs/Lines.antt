@@ -1,5 +1,5 @@
 -- The bench's text: "lines of hex (either case, two digits a byte, no spaces) .. the first byte, then a record's kind and body in each".
-use Rattle.std.specs.Prelude.{List, [], ◌∷◌, ◌++◌, map, ℕ, ◌+◌, ◌*◌, ◌-◌, length, ltb, leb, eqb}
+use Rattle.std.specs.Prelude.{List, [], ◌∷◌, ◌++◌, map, ℕ, ◌+◌, ◌*◌, ◌-◌, length, ltb, leb, eqb, Option, Some, None}
 use Rattle.wire.specs.Pick.{pick}
 use Rattle.image.specs.Reading.{Result}
 use Rattle.image_writer.specs.Writing.{Record, writing}
@@ -15,35 +15,39 @@ lines_from line (x ∷ text) = pick (eqb x line_end) (line ∷ lines_from [] tex
 abbrev pub lines_of : List ℕ → List (List ℕ)
 lines_of text = lines_from [] text
 
--- the value of a hex digit: 0 to 9, A to F, a to f; 16 of any other character
-abbrev pub no_digit : ℕ
-no_digit = 16
-
-unfoldable pub digit_of : ℕ → ℕ
+-- the value of a hex digit: 0 to 9, A to F, a to f; any other character has none
+unfoldable pub digit_of : ℕ → Option ℕ
 digit_of x =
-    pick (ltb x 48) no_digit
-    (pick (leb x 57) (x - 48)
-    (pick (ltb x 65) no_digit
-    (pick (leb x 70) (x - 55)
-    (pick (ltb x 97) no_digit
-    (pick (leb x 102) (x - 87) no_digit)))))
+    pick (ltb x 48) None
+    (pick (leb x 57) (Some (x - 48))
+    (pick (ltb x 65) None
+    (pick (leb x 70) (Some (x - 55))
+    (pick (ltb x 97) None
+    (pick (leb x 102) (Some (x - 87)) None)))))
+
+-- the byte of two digits, the high half first
+abbrev pub byte_by : Option ℕ → Option ℕ → Option ℕ
+byte_by (Some h) (Some l) = Some (h * 16 + l)
+byte_by (Some h) None = None
+byte_by None l = None
+
+abbrev pub byte_of : ℕ → ℕ → Option ℕ
+byte_of x y = byte_by (digit_of x) (digit_of y)
 
 -- a line decoded: malformed is "an odd number of digits, any character that is no hex digit"
 pub data Decoded : Type 0 where
   malformed : Decoded
   bytes : List ℕ → Decoded
 
-abbrev pub before : ℕ → Decoded → Decoded
-before b malformed = malformed
-before b (bytes l) = bytes (b ∷ l)
+abbrev pub before : Option ℕ → Decoded → Decoded
+before None d = malformed
+before (Some b) malformed = malformed
+before (Some b) (bytes l) = bytes (b ∷ l)
 
 unfoldable pub decoded : List ℕ → Decoded
 decoded [] = bytes []
 decoded (x ∷ []) = malformed
-decoded (x ∷ y ∷ line) =
-    pick (leb no_digit (digit_of x)) malformed
-    (pick (leb no_digit (digit_of y)) malformed
-    (before (digit_of x * 16 + digit_of y) (decoded line)))
+decoded (x ∷ y ∷ line) = before (byte_of x y) (decoded line)
 
 -- a malformed line counts as one without bytes: both get the same number
 abbrev pub bytes_of : Decoded → List ℕ

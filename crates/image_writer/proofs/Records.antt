@@ -83,3 +83,6 @@ module _ (out : List ℕ) (at kind : ℕ) (body : List ℕ) where
   pub head_alone : length out - at ≤ head_length → splice out at (head_of kind body) ≡ splice out at (record_bytes kind body)
   head_alone h =
       sym (splice_past (splice out at (head_of kind body)) (at + head_length) body (omega (arith, splice-length out at (head_of kind body)))) ∙ head_then_body
+
+-- nothing is put past the buffer's end; else the head, and the body where there is room for it
+pub ruleset put_by_parts = (splice_past, head_then_body, head_alone)

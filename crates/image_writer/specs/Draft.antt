@@ -27,7 +27,9 @@ grown_to d body w = record { seen = Some w; length = longer d.length body }
 
 -- the first record is the identity
 unfoldable pub first_held : ℕ → List ℕ → Result Seen
-first_held kind body = pick (eqb kind identity_kind) (unless (identity_fault body) (found (seen_first (identity_in body)))) (number wrong_kind)
+first_held kind body =
+    pick (eqb kind identity_kind) (unless (identity_fault body) (found (seen_first (identity_in body))))
+    (number wrong_kind)
 
 -- what is seen past a record, or its fault
 abbrev pub seen_past : Option Seen → ℕ → List ℕ → Result Seen

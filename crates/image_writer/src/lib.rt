@@ -56,6 +56,7 @@ pub struct Record<'a> {
 
 impl Record<'_> {
     // The record's head and body from a place of out on; what would lie past its end is lost.
+    #[tactic(auto, using(crate::proofs::Records::put_by_parts))]
     pub fn put(&self, out: &mut [u8], at: usize)
         ensures { out.new ≡ splice out.old at (record_bytes self.now.kind self.now.body.now) }
     {
@@ -87,6 +88,7 @@ fn draft_of(first: u8, records: &[Record<'_>]) -> Result<Draft, Fault>
 }
 
 // All records, behind the first byte.
+#[tactic(auto, using(crate::proofs::Rest::putting_done))]
 fn put_all(out: &mut [u8], records: &[Record<'_>])
     requires { 1 + length (joined (records_in records.now)) ≤ length out.old }
     ensures { out.new ≡ splice out.old 1 (joined (records_in records.now)) }

@@ -1,6 +1,6 @@
 -- A turn puts the record that stands there, and the end of the image bounds each place. Assumes nothing.
 use Rattle.std.proofs.Common.{arith}
-use Rattle.image_writer.proofs.Rest.{putting_at, putting_done}
+use Rattle.image_writer.proofs.Rest.{putting_at}
 use Rattle.image_writer.proofs.put_all.Goals as goal
 
 pub overflow_add-end-in-loop-record : goal.overflow_add-end-in-loop-record
@@ -11,6 +11,3 @@ overflow_add-end-in-loop-record c =
 
 pub loop-record-preserved : goal.loop-record-preserved
 loop-record-preserved c = putting_at _ _ _ _ c.loop-record.record-index _ _ c.loop-record.invariant c.loop-record-test.true c.put.ensures
-
-pub returns : goal.returns
-returns c = putting_done _ _ _ _ _ c.loop-record.invariant c.loop-record-test.false
