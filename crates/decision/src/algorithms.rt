@@ -14,7 +14,7 @@ use rules::limits::{
 use rules::{Accepted, Message, Negotiated, Part, Refusal};
 
 // Whether bit n of a field is set; a field has 32.
-#[tactic(auto, using(wire::proofs::Picks::picks, crate::proofs::AlgorithmLaws::no_bit))]
+#[tactic(auto, using(crate::proofs::AlgorithmLaws::no_bit))]
 fn bit_set(v: u32, n: u8) -> bool
     ensures { result ≡ bit_set v n }
 {
@@ -24,10 +24,11 @@ fn bit_set(v: u32, n: u8) -> bool
 // The structures: so many as Param1 says, of rising types, ending at Length.
 #[tactic(auto, using(crate::proofs::AlgorithmLaws::walk))]
 fn structures_fit(r: &[u8], long: usize) -> bool
-    requires { (algorithms_least ≤ length r.now)
-        × ((long ≡ length_field r.now) × ((long ≤ algorithms_most) × (long ≤ length r.now))) }
-    ensures { result
-        ≡ structures_fit r.now (param1 r.now) (type_least - 1) (structures_start r.now) }
+    requires least { algorithms_least ≤ length r.now }
+    requires told { long ≡ length_field r.now }
+    requires most { long ≤ algorithms_most }
+    requires here { long ≤ length r.now }
+    ensures { result ≡ structures_fit r.now (param1 r.now) (type_least - 1) (structures_start r.now) }
 {
     let mut last = TYPE_LEAST - 1;
     let mut at = ALGORITHMS_LEAST + 4 * usize::from(r[28]) + 4 * usize::from(r[29]);

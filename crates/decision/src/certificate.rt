@@ -15,7 +15,7 @@ fn portion_of(asked: usize, left: usize, peer: u32) -> usize
     ensures { (result ≡ portion_of asked left peer) × ((result ≤ left) × (result ≤ portion_limit)) }
 {
     let room = (peer as usize).saturating_sub(CERTIFICATE_HEAD);
-    asked.min(left).min(room.min(PORTION_LIMIT))
+    asked.min(left).min(room).min(PORTION_LIMIT)
 }
 
 #[tactic(auto, using(wire::proofs::Picks::picks), unfolding(rules::specs::Certificate::certificate_decision, rules::specs::Certificate::portion_decision))]

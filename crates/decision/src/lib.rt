@@ -41,7 +41,7 @@ fn decide_version() -> Accepted
     }
 }
 
-// Steps 7 to 9, by the kind of request.
+// Steps 7 to 9, by the kind of request. The image, the state and the request stay apart: most kinds need only one or two of them.
 #[tactic(auto, unfolding(rules::specs::Decisions::last_steps))]
 fn last_steps(image: &Image, s: State, r: &[u8], k: Kind) -> Result<Accepted, Refusal>
     requires { header_length ≤ length r.now }

@@ -43,16 +43,16 @@ fn signer_of(image: &Image, r: &[u8]) -> Result<Option<SlotNumber>, Refusal>
     if r.len() < SIGNED_LAYOUT {
         return Err(invalid_request());
     }
-    let slot = filled_slot(image, r[36] % 16)?;
-    Ok(Some(slot))
+    Ok(Some(filled_slot(image, r[36] % 16)?))
 }
 
 // The measurement with that index, which step 7 refuses where it is out of range or there is none.
+#[tactic(auto, using(crate::proofs::IndexLaws::indices))]
 fn present_index(image: &Image, asked: u8) -> Result<MeasurementIndex, Refusal>
     ensures { Tested result (record { 0 = asked }) ((facts_in image.now).present asked) }
 {
     match MeasurementIndex::new(asked) {
-        Some(index) if 0 < image.measurement(index).len() => Ok(index),
+        Some(index) if !image.measurement(index).is_empty() => Ok(index),
         _ => Err(invalid_request()),
     }
 }

@@ -10,6 +10,15 @@ use image_lookup::Image;
 use rules::Operation;
 use rules::limits::{HEADER_LENGTH, NONCE_LENGTH};
 
+// The number of blocks, and the record's length.
+const RECORD_HEAD: usize = 4;
+
+// What a measurement block has beside its digest.
+const BLOCK_HEAD: usize = 7;
+
+// The length of the opaque data, which is none.
+const OPAQUE_LENGTH: usize = 2;
+
 // DIGESTS.
 pub(crate) fn digests_size(image: &Image) -> usize
     ensures { (result ≡ digests_size (facts_in image.now)) × (result < 65536) }
@@ -22,9 +31,9 @@ pub(crate) fn digests_size(image: &Image) -> usize
 pub(crate) fn challenge_size(image: &Image, x: u8) -> usize
     ensures { (result ≡ challenge_size (facts_in image.now) x) × (result < 65536) }
 {
-    let h = image::digest_size(image.index.identity.hash);
-    let summary = if x == 0 { 0 } else { h };
-    HEADER_LENGTH + h + NONCE_LENGTH + summary + 2
+    let digest = image::digest_size(image.index.identity.hash);
+    let summary = if x == 0 { 0 } else { digest };
+    HEADER_LENGTH + digest + NONCE_LENGTH + summary + OPAQUE_LENGTH
 }
 
 // How many measurement blocks MEASUREMENTS has.
@@ -42,10 +51,7 @@ pub fn block_count(ix: Index, o: Operation) -> u8
 pub(crate) fn measurements_size(image: &Image, o: Operation) -> usize
     ensures { (result ≡ measurements_size (facts_in image.now) o) × (result < 65536) }
 {
-    let ix = image.index;
-    HEADER_LENGTH
-        + 4
-        + usize::from(block_count(ix, o)) * (7 + image::digest_size(ix.identity.hash))
-        + NONCE_LENGTH
-        + 2
+    let block = BLOCK_HEAD + image::digest_size(image.index.identity.hash);
+    let blocks = usize::from(block_count(image.index, o)) * block;
+    HEADER_LENGTH + RECORD_HEAD + blocks + NONCE_LENGTH + OPAQUE_LENGTH
 }

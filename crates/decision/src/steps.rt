@@ -21,7 +21,8 @@ use rules::{
     Accepted, Awaited, Exchange, Kind, Message, Negotiated, Part, Refusal, Refused, State, Used,
 };
 
-// What a request code asks for: every code that is not served, RESPOND_IF_READY included, is unsupported.
+// What a request code asks for: every code that is not served, RESPOND_IF_READY included, is unsupported. The ranges between stand
+// written out, so that each code is seen to have its arm.
 #[tactic(auto, using(wire::proofs::Picks::picks), unfolding(rules::specs::Steps::kind_of))]
 pub(crate) fn kind_of(code: u8) -> Option<Kind>
     ensures { result ≡ kind_of code }
@@ -34,10 +35,7 @@ pub(crate) fn kind_of(code: u8) -> Option<Kind>
         GET_CERTIFICATE => Some(Kind::Certificate),
         CHALLENGE => Some(Kind::Challenge),
         GET_MEASUREMENTS => Some(Kind::Measurements),
-        0..=0x80 => None,
-        0x85..=0xDF => None,
-        0xE2 => None,
-        0xE4..=0xFF => None,
+        0..=0x80 | 0x85..=0xDF | 0xE2 | 0xE4..=0xFF => None,
     }
 }
 
@@ -61,7 +59,7 @@ pub(crate) fn must_wait(w: Awaited, code: u8) -> bool
     w.whose != AWAITS_NOTHING && code != GET_VERSION
 }
 
-// Step 4.
+// Step 4. This match and those of steps 5 and 6 name every kind, so that a new one must be thought of.
 #[tactic(auto, unfolding(rules::specs::Steps::serves))]
 pub(crate) fn serves_kind(image: &Image, k: Kind) -> bool
     ensures { result ≡ serves (facts_in image.now) k }
@@ -145,6 +143,7 @@ pub(crate) fn invalid_request() -> Refusal
 }
 
 // The slot with that number, which step 7 refuses where it is out of range or not filled.
+#[tactic(auto, using(crate::proofs::IndexLaws::slots))]
 pub(crate) fn filled_slot(image: &Image, asked: u8) -> Result<SlotNumber, Refusal>
     ensures { Tested result (record { 0 = asked }) (ltb 0 ((facts_in image.now).chain_length asked)) }
 {
@@ -189,7 +188,11 @@ fn count_of(p: Part, u: Used) -> u32
 
 // Steps 8 and 9; what passed them is accepted.
 #[tactic(auto, using(wire::proofs::Picks::picks), unfolding(rules::specs::Steps::size_steps))]
-pub(crate) fn size_steps(s: State, message: Message, exchange: Exchange) -> Result<Accepted, Refusal>
+pub(crate) fn size_steps(
+    s: State,
+    message: Message,
+    exchange: Exchange,
+) -> Result<Accepted, Refusal>
     requires { Small exchange }
     ensures { decided result ≡ size_steps s message exchange }
 {
