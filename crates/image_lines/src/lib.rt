@@ -29,9 +29,9 @@ const LINE_ROOM: usize = 1 + (1 + DIGEST_MOST + CHAIN_LIMIT) + 1;
 
 // What has come of a line: the first digit of a byte whose second is to come, and how many bytes are kept.
 #[derive(Clone, Copy)]
-struct Line {
-    first: Option<u8>,
-    count: usize,
+pub struct Line {
+    pub first: Option<u8>,
+    pub count: usize,
 }
 
 const NEW_LINE: Line = Line {
@@ -43,8 +43,8 @@ const NEW_LINE: Line = Line {
 // it is malformed.
 #[derive(Clone, Copy)]
 pub struct Text {
-    draft: Option<Result<Draft, Fault>>,
-    line: Option<Line>,
+    pub draft: Option<Result<Draft, Fault>>,
+    pub line: Option<Line>,
 }
 
 // The value of a hex digit in either case.

@@ -4,7 +4,7 @@
 
 use image::limits::IMAGE_LIMIT;
 use image_lines::Text;
-use image_writer::Written;
+use image_writer::WriteError;
 use std::io;
 use std::io::Read;
 
@@ -14,21 +14,25 @@ const PART: usize = 4096;
 // Takes standard input to its end. A read that fails is not taken for the end: what is left may be an image without its last records.
 fn take_input(stdin: &mut impl Read, room: &mut [u8], image: &mut [u8]) -> io::Result<Text> {
     let mut part = [0u8; PART];
-    let mut text = image_lines::start();
+    let mut text = Text::start();
     for _ in 0..u64::MAX {
         let n = stdin.read(&mut part)?;
         if n == 0 {
             break;
         }
-        text = image_lines::take(text, room, image, &part[..n]);
+        text = text.take(room, image, &part[..n]);
     }
     Ok(text)
 }
 
-fn print_answer(rt: &impl Print, answer: Written, image: &[u8]) -> io::Result<()> {
+fn print_answer(
+    rt: &impl Print,
+    answer: Result<usize, WriteError>,
+    image: &[u8],
+) -> io::Result<()> {
     match answer {
-        Written::Image(n) => rt.write_all(wire::part_of(image, 0, n)),
-        Written::Refused(number) => rt.print(number),
+        Ok(length) => rt.write_all(wire::part_of(image, 0, length)),
+        Err(error) => rt.print(error.number()),
     }
 }
 
@@ -39,7 +43,7 @@ fn make(rt: &(impl Input + Print)) -> Result<(), &'static str> {
     let text = take_input(&mut rt.reader(), &mut room, &mut image).map_err(
         |_| "input cannot be read",
     )?;
-    let answer = image_lines::end(text, &room, &mut image);
+    let answer = text.end(&room, &mut image);
     print_answer(rt, answer, &image).map_err(|_| "output cannot be written")
 }
 

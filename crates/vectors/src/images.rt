@@ -1,7 +1,8 @@
 // Images: a line has an image in hex and what the reader is to say of it.
 use crate::words::{decode, word};
+use image::SlotNumber;
 use image::limits::SLOT_LIMIT;
-use image::{Index, SlotCheck, SlotNumber, Verdict};
+use image_lookup::Image;
 use std::alloc::{AllocError, Global};
 use std::fmt;
 
@@ -11,28 +12,12 @@ fn push_entry(list: &mut String, entry: impl fmt::Display + Drop) -> Result<(), 
     write!(list, "{comma}{entry}")
 }
 
-fn slot_number(k: u8) -> Option<SlotNumber> {
-    match image::slot_number(k) {
-        SlotCheck::Slot(slot) => Some(slot),
-        SlotCheck::OutOfRange => None,
-    }
-}
-
-// The index of an image, or the number of its first fault.
-fn read(image: &[u8]) -> Result<Index, u8> {
-    let read = image_reader::read_image(image);
-    match read.verdict {
-        Verdict::Accepted => Ok(read.index),
-        Verdict::Refused(number) => Err(number),
-    }
-}
-
 // The filled slots, each with the length of its chain.
-fn slots(alloc: Global, image: &[u8], index: Index) -> Result<String, AllocError> {
+fn slots(alloc: Global, image: &Image) -> Result<String, AllocError> {
     let mut list = String::new(alloc);
     for k in 0..=SLOT_LIMIT {
-        if let Some(slot) = slot_number(k) {
-            let length = image_lookup::chain_length(image, index, slot);
+        if let Some(slot) = SlotNumber::new(k) {
+            let length = image.chain_length(slot);
             if length > 0 {
                 push_entry(&mut list, format_args!("{k}:{length}"))?;
             }
@@ -42,10 +27,10 @@ fn slots(alloc: Global, image: &[u8], index: Index) -> Result<String, AllocError
 }
 
 // The indices of the measurements, a single '-' for none.
-fn measurements(alloc: Global, image: &[u8], index: Index) -> Result<String, AllocError> {
+fn measurements(alloc: Global, image: &Image) -> Result<String, AllocError> {
     let mut list = String::new(alloc);
-    for k in 0..usize::from(index.measurements) {
-        if let [number, ..] = image_lookup::nth_measurement(image, index, k) {
+    for k in 0..usize::from(image.index.measurements) {
+        if let [number, ..] = image.nth_measurement(k) {
             push_entry(&mut list, number)?;
         }
     }
@@ -56,23 +41,24 @@ fn measurements(alloc: Global, image: &[u8], index: Index) -> Result<String, All
 }
 
 // What an accepted image holds.
-fn contents(alloc: Global, image: &[u8], index: Index) -> Result<String, AllocError> {
-    let id = index.identity;
+fn contents(alloc: Global, image: &Image) -> Result<String, AllocError> {
+    let id = image.index.identity;
     format!(in alloc;
         "0 {} {} {} {} {}",
         id.exponent,
         id.hash,
         id.signature,
-        slots(alloc, image, index)?,
-        measurements(alloc, image, index)?
+        slots(alloc, image)?,
+        measurements(alloc, image)?
     )
 }
 
 // What the reader says of a line's image, as the vectors have it.
 pub fn said(rt: &(impl AllocGlobal + Print), line: &str) -> Result<String, AllocError> {
     let image = decode(rt, word(line, 0))?;
-    match read(&image) {
-        Ok(index) => contents(rt.alloc(), &image, index),
-        Err(number) => format!(in rt.alloc(); "{number}"),
+    let bytes = image.as_slice();
+    match image_reader::read_image(bytes) {
+        Ok(index) => contents(rt.alloc(), &Image { bytes, index }),
+        Err(fault) => format!(in rt.alloc(); "{}", fault.number()),
     }
 }

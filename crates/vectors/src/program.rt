@@ -3,21 +3,22 @@
 use crate::text::Hex;
 use crate::words::{decode, word};
 use image::limits::IMAGE_LIMIT;
-use image_writer::Written;
+use image_lines::Text;
+use image_writer::WriteError;
 use std::alloc::AllocError;
 
 // No part is so long; every so many lines a text is taken at once.
 const PART: usize = 97;
 
 // Takes a text in parts of a length, the last of them shorter; a length of 0: at once.
-fn make(text: &[u8], part: usize, image: &mut [u8; IMAGE_LIMIT]) -> Written {
+fn make(text: &[u8], part: usize, image: &mut [u8; IMAGE_LIMIT]) -> Result<usize, WriteError> {
     let size = if part == 0 { text.len() } else { part };
     let mut room = image_lines::line_room();
-    let mut taken = image_lines::start();
+    let mut taken = Text::start();
     for part in text.chunks(size.max(1)) {
-        taken = image_lines::take(taken, &mut room, image, part);
+        taken = taken.take(&mut room, image, part);
     }
-    image_lines::end(taken, &room, image)
+    taken.end(&room, image)
 }
 
 // What is written of a line's text, as the vectors have it: the image, or the number in decimal.
@@ -29,9 +30,9 @@ pub fn made(
     let text = decode(rt, word(line, 0))?;
     let mut image = [0u8; IMAGE_LIMIT];
     match make(&text, number % PART, &mut image) {
-        Written::Image(n) => format!(in rt.alloc(); "{}", Hex(wire::part_of(&image, 0, n))),
-        Written::Refused(fault) => {
-            let digits = format!(in rt.alloc(); "{fault}")?;
+        Ok(n) => format!(in rt.alloc(); "{}", Hex(wire::part_of(&image, 0, n))),
+        Err(error) => {
+            let digits = format!(in rt.alloc(); "{}", error.number())?;
             format!(in rt.alloc(); "{}", Hex(digits.as_bytes()))
         }
     }

@@ -5,7 +5,7 @@ use crate::states::{Words, awaits, state_of};
 use crate::text::{Hex, changed, crc32};
 use crate::words::{decode, length, number, word};
 use crate::{FILL, MESSAGE, TRANSCRIPT};
-use rules::{Outcome, Reply, State};
+use rules::{HostError, Outcome, State};
 use std::alloc::{AllocError, Global};
 use std::collections::BTreeMap;
 use std::iter;
@@ -20,14 +20,6 @@ fn rising(alloc: Global, first: u8, step: u8, n: usize) -> Result<Vec<u8>, Alloc
     iter::successors(Some(first), |byte| Some(byte.wrapping_add(step)))
         .take(n)
         .collect(alloc)
-}
-
-// The length of the answer, or the number for the host.
-fn answered(reply: Reply) -> Result<usize, u32> {
-    match reply {
-        Reply::Answer(n) => Ok(n),
-        Reply::Number(number) => Err(number),
-    }
 }
 
 fn image_named<'a>(images: &'a BTreeMap<String, Vec<u8>>, name: &str) -> &'a [u8] {
@@ -101,10 +93,8 @@ impl Run {
         before: &[u8],
         answer: &[u8],
     ) -> Result<(), AllocError> {
-        let (number, n) = match answered(outcome.reply) {
-            Ok(n) => (0, n),
-            Err(number) => (number, 0),
-        };
+        let n = outcome.reply.unwrap_or(0);
+        let number = outcome.reply.err().map_or(0, HostError::number);
         self.given = format!(in alloc;
             "{number} {} {} {:08x}{}",
             Hex(wire::part_of(answer, 0, n)),
