@@ -12,12 +12,11 @@ mod steps;
 
 ghost use Rattle.std.specs.Prelude.{◌≡◌, ◌≤◌, Ok, length};
 ghost use Rattle.rules.specs.Limits.{header_length};
-ghost use Rattle.decision.specs.ImageFacts.{facts_in};
-ghost use Rattle.rules.specs.Facts.{Facts};
 ghost use Rattle.rules.specs.Steps.{kind_steps};
 ghost use Rattle.rules.specs.Version.{version_decision};
 ghost use Rattle.rules.specs.Decision.{decided};
 ghost use Rattle.rules.specs.Decisions.{last_steps, request_decision, decision_of};
+ghost use Rattle.decision.specs.ImageFacts.{facts_in};
 
 use image_lookup::Image;
 use rules::limits::{
@@ -62,9 +61,7 @@ fn last_steps(image: &Image, s: State, r: &[u8], k: Kind) -> Result<Accepted, Re
 #[tactic(auto, using(wire::proofs::Picks::picks), unfolding(rules::specs::Steps::kind_steps))]
 fn kind_steps(image: &Image, s: State, r: &[u8], k: Kind) -> Result<Accepted, Refusal>
     requires { header_length ≤ length r.now }
-    ensures { (
-        let f : Facts = facts_in image.now in
-        decided result ≡ kind_steps f s r.now k (last_steps f s r.now k)) }
+    ensures { decided result ≡ kind_steps (facts_in image.now) s r.now k (last_steps (facts_in image.now) s r.now k) }
 {
     if !steps::serves_kind(image, k) {
         return Err(steps::refused(CODE_STEP, UNSUPPORTED_REQUEST, r[1]));
