@@ -131,6 +131,7 @@ fn run_from(s: &[u8], from: usize, w: Seen) -> (usize, Seen)
     let mut at = from;
     let mut n = w.measurements;
     let mut last = base + usize::from(w.index);
+    // Not a `for`: the place, the count and the last head are all wanted behind the loop.
     while at + stride <= end {
         let head = head_at(s, at);
         if head <= last || top < head || TYPE_LIMIT < s[at + HEAD_LENGTH + 1] {
@@ -160,6 +161,7 @@ fn walk(s: &[u8], identity: Identity) -> Result<Index, Fault>
     let mut first: u16 = 0;
     loop {
         let read = read_record(s, at, w);
+        // Not by `?`: the first fault leaves the loop as its value.
         let Ok(found) = read else {
             break Err(read.unwrap_err());
         };
