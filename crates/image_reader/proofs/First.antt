@@ -8,12 +8,11 @@ use Rattle.std.specs.Prelude.{Option, Some, None}
 use Prim.Native.Nat.{ℕ, ◌+◌, ◌-◌, ◌≤◌, ◌<◌}
 use native.Mathlib.Omega.{arith}
 use borrow.Author.Tests.{eqb-true, ne_eqb}
-use Rattle.wire.specs.Pick.{pick}
 use lib.Dec.{eqb}
 use Rattle.wire.proofs.Laws.{part_length}
 use Rattle.wire.proofs.Picks.{picks, pick-map}
 use Rattle.image.specs.Index.{answer_of}
-use Rattle.image.specs.Limits.{head_length, identity_length, identity_kind, identity_end, wrong_kind, image_limit, image_version}
+use Rattle.image.specs.Limits.{head_length, identity_end, image_limit, image_version}
 use Rattle.image.specs.Contents.{Contents, identity_body}
 use Rattle.image.specs.Reading.{Result, number, found, unless, identity_in, identity_fault, identified, read_on, read_all, reading}
 use Rattle.image.proofs.Growth.{identity-body}
@@ -31,7 +30,7 @@ identity-ends b f w z =
     omega (arith, identity-length (body_in b f) z)
 
 said_first : (b : List ℕ) (g : Result (Option Frame)) → Says b 1 g → first_read b g ≡ read_all (frames_at b 1)
-unfolding first_read read_all unless
+unfolding read_all unless
 said_first b (number k) p = rw (p.fault, p.read)
 said_first b (found None) p = rw p
 said_first b (found (Some f)) p =

@@ -15,7 +15,7 @@ use Rattle.wire.specs.Bytes.{be_at, part}
 use Rattle.wire.specs.Pick.{pick}
 use Rattle.wire.proofs.Picks.{picks, pick_case}
 use Rattle.image.specs.Limits.{head_length, broken_record}
-use Rattle.image.specs.Reading.{Result, number, found, Frames, ended, broken, frame, frames_of}
+use Rattle.image.specs.Reading.{Result, number, found, ended, broken, frame, frames_of}
 use Rattle.image_reader.specs.Steps.{frames_at, frame_at, body_in}
 use Rattle.image_reader.specs.declared.Frame.{Frame}
 

@@ -4,7 +4,7 @@
 use mathlib.Core.Path.{◌≡◌, refl, sym, ap, ◌∙◌, subst}
 use mathlib.Core.Bool.{false}
 use mathlib.Core.List.{List}
-use Rattle.std.specs.Prelude.{Option, Some, None}
+use Rattle.std.specs.Prelude.{Some}
 use Prim.Native.Nat.{ℕ, zero, suc, ◌+◌, ◌-◌, ◌*◌, ◌≤◌, ◌<◌}
 use native.Mathlib.Omega.{arith}
 use native.Mathlib.Nat.{suc-mul, add-sub_cancel_left}
@@ -16,10 +16,10 @@ use Rattle.wire.specs.Bytes.{be_at, part}
 use Rattle.wire.proofs.Laws.{part_length}
 use Rattle.wire.proofs.Picks.{picks, pick_yes, pick_no}
 use Rattle.image.specs.Limits.{head_length, chain_kind, measurement_kind, measurements_limit, index_limit, type_limit}
-use Rattle.image.specs.Reading.{Result, found, number, unless, measurement_fault, record_fault}
+use Rattle.image.specs.Reading.{found, number, unless, measurement_fault, record_fault}
 use Rattle.image.specs.declared.Seen.{Seen}
 use Rattle.image_records.specs.Records.{seen_after, held_of}
-use Rattle.image_reader.specs.Steps.{frame_at, held_record, record_of}
+use Rattle.image_reader.specs.Steps.{frame_at, record_of}
 use Rattle.image_reader.specs.Runs.{measured, Run, none, more, Measuring, Head}
 use Rattle.image_reader.specs.declared.Frame.{Frame}
 use Rattle.image_reader.specs.declared.Record.{Record}
@@ -67,7 +67,7 @@ body-byte b start len i place h e = get_or-take len (drop start b) i 0 h ∙ get
 step-good : (b : List ℕ) (v : Seen) (start len : ℕ) → 0 ≡ record_fault v measurement_kind (part b start len)
     → record_of b v (found (Some (frame_of measurement_kind start len)))
     ≡ found (Some (good_of measurement_kind start len (measured v (v.measurements + 1) (get_or (part b start len) 0 0))))
-unfolding record_of held_record held_of unless
+unfolding record_of held_of unless
 step-good b v start len f =
     let fault = record_fault v measurement_kind (part b start len) in
     let key = get_or (part b start len) 0 0 in

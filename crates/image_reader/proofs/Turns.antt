@@ -9,7 +9,6 @@ use native.Mathlib.Nat.{add-zero}
 use lib.ListN.{length, get_or, set, length-append}
 use lib.Dec.{eqb}
 use borrow.Author.Tests.{eqb-true, eq-eqb, ne_eqb}
-use Rattle.wire.specs.Bytes.{part}
 use Rattle.wire.specs.Pick.{pick}
 use Rattle.wire.proofs.Laws.{part_length}
 use Rattle.wire.proofs.Picks.{pick-map, pick_case, pick_yes, pick_no, either}
@@ -41,7 +40,7 @@ concluded b c (found (Some r)) = read_on (extended c r.frame.kind (body_in b r.f
 
 framed : (b : List ℕ) (c : Contents) (at : ℕ) (g : Result (Option Frame)) → Says b at g
     → concluded b c (record_of b (seen c) g) ≡ read_on c (frames_at b at)
-unfolding record_of held_record held_of read_on concluded unless
+unfolding record_of held_of read_on concluded unless
 framed b c at (number k) p = rw (p.fault, p.read)
 framed b c at (found None) p = rw p (pick-map (concluded b c) _ _ _ _ _ (λ t. refl) (λ t. refl))
 framed b c at (found (Some f)) p =
@@ -58,7 +57,7 @@ pub record Taken (b : List ℕ) (w : Seen) (g : Result (Option Frame)) (r : Reco
   pub seeing : r.next ≡ seen_after w r.frame.kind (get_or (body_in b r.frame) 0 0)
 
 pub taken : (b : List ℕ) (w : Seen) (g : Result (Option Frame)) (r : Record) → record_of b w g ≡ found (Some r) → Taken b w g r
-unfolding record_of held_record held_of unless
+unfolding record_of held_of unless
 taken b w (number k) r e = cc
 taken b w (found None) r e = either (Taken b w (found None) r) _ _ _ _ e (λ t g. cc) (λ t g. cc)
 taken b w (found (Some f)) r e =

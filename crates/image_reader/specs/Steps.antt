@@ -4,7 +4,8 @@ use Rattle.wire.specs.Bytes.{be_at, part}
 use Rattle.wire.specs.Pick.{pick}
 use Rattle.image.specs.Limits.{head_length, identity_end, broken_record, wrong_kind, identity_kind, chain_kind, measurement_kind}
 use Rattle.image.specs.Contents.{Contents}
-use Rattle.image.specs.Reading.{Result, number, found, unless, Frames, frames_of, identity_fault, identity_in, identified, read_on, end_fault}
+use Rattle.image.specs.Reading.{Result, number, found, unless, Frames, frames_of, read_on}
+use Rattle.image.specs.Reading.{identity_fault, identity_in, identified, end_fault}
 use Rattle.image.specs.declared.Identity.{Identity}
 use Rattle.image.specs.declared.Seen.{Seen}
 use Rattle.image.specs.declared.Index.{Index}
@@ -29,7 +30,7 @@ abbrev pub body_in : List ℕ → Frame → List ℕ
 body_in b f = part b f.start (f.end - f.start)
 
 -- a record at a place, held against those before it
-unfoldable pub held_record : Frame → Result Seen → Result (Option Record)
+abbrev pub held_record : Frame → Result Seen → Result (Option Record)
 held_record f (number k) = number k
 held_record f (found next) = found (Some (record { frame = f; next = next }))
 
@@ -39,7 +40,7 @@ record_of b w (found None) = unless (end_fault w) (found None)
 record_of b w (found (Some f)) = held_record f (held_of w f.kind (body_in b f))
 
 -- what the image reads as, by the frame behind the version byte
-unfoldable pub first_read : List ℕ → Result (Option Frame) → Result Contents
+abbrev pub first_read : List ℕ → Result (Option Frame) → Result Contents
 first_read b (number k) = number k
 first_read b (found None) = number wrong_kind
 first_read b (found (Some f)) =

@@ -65,7 +65,7 @@ struct Record {
 }
 
 // The record at a place, held against those before it.
-#[tactic(auto, using(crate::proofs::Frames::records), unfolding(crate::specs::Steps::record_of, crate::specs::Steps::held_record, image::specs::Reading::unless))]
+#[tactic(auto, using(crate::proofs::Frames::records), unfolding(crate::specs::Steps::record_of, image::specs::Reading::unless))]
 fn read_record(s: &[u8], at: usize, w: Seen) -> Result<Option<Record>, Fault>
     ensures { told result ≡ record_of s.now w (frame_at s.now at) }
 {
@@ -131,6 +131,7 @@ fn run_from(s: &[u8], from: usize, w: Seen) -> (usize, Seen)
     let mut at = from;
     let mut n = w.measurements;
     let mut last = base + usize::from(w.index);
+    // Not a `for`: the place, the count and the last head are all wanted behind the loop.
     while at + stride <= end {
         let head = head_at(s, at);
         if head <= last || top < head || TYPE_LIMIT < s[at + HEAD_LENGTH + 1] {
@@ -160,6 +161,7 @@ fn walk(s: &[u8], identity: Identity) -> Result<Index, Fault>
     let mut first: u16 = 0;
     loop {
         let read = read_record(s, at, w);
+        // Not by `?`: the first fault leaves the loop as its value.
         let Ok(found) = read else {
             break Err(read.unwrap_err());
         };
@@ -183,7 +185,7 @@ fn walk(s: &[u8], identity: Identity) -> Result<Index, Fault>
 }
 
 // The identity, and the records behind it.
-#[tactic(auto, using(crate::proofs::First::firsts), unfolding(crate::specs::Steps::first_read, image::specs::Reading::unless, image::specs::Index::answer_of))]
+#[tactic(auto, using(crate::proofs::First::firsts), unfolding(image::specs::Reading::unless, image::specs::Index::answer_of))]
 fn read_records(s: &[u8]) -> Result<Index, Fault>
     requires { length s.now ≤ image_limit }
     ensures { told result ≡ answer_of (first_read s.now (frame_at s.now 1)) }
