@@ -9,15 +9,18 @@ use std::alloc::AllocError;
 // No part is so long; every so many lines a text is taken at once.
 const PART: usize = 97;
 
-// Takes a text in parts of a length, the last of them shorter; a length of 0: at once.
-fn make(text: &[u8], part: usize, image: &mut [u8; IMAGE_LIMIT]) -> Written {
+// Takes a text in parts of a length, the last of them shorter; a length of 0: at once. The image's length, or the number of the first fault.
+fn make(text: &[u8], part: usize, image: &mut [u8; IMAGE_LIMIT]) -> Result<usize, u8> {
     let size = if part == 0 { text.len() } else { part };
     let mut room = image_lines::line_room();
     let mut taken = image_lines::start();
     for part in text.chunks(size.max(1)) {
         taken = image_lines::take(taken, &mut room, image, part);
     }
-    image_lines::end(taken, &room, image)
+    match image_lines::end(taken, &room, image) {
+        Written::Image(n) => Ok(n),
+        Written::Refused(fault) => Err(fault),
+    }
 }
 
 // What is written of a line's text, as the vectors have it: the image, or the number in decimal.
@@ -29,8 +32,8 @@ pub fn made(
     let text = decode(rt, word(line, 0))?;
     let mut image = [0u8; IMAGE_LIMIT];
     match make(&text, number % PART, &mut image) {
-        Written::Image(n) => format!(in rt.alloc(); "{}", Hex(wire::part_of(&image, 0, n))),
-        Written::Refused(fault) => {
+        Ok(n) => format!(in rt.alloc(); "{}", Hex(wire::part_of(&image, 0, n))),
+        Err(fault) => {
             let digits = format!(in rt.alloc(); "{fault}")?;
             format!(in rt.alloc(); "{}", Hex(digits.as_bytes()))
         }
