@@ -41,7 +41,7 @@ impl Kind {
     fn wanted(self) -> usize {
         match self {
             Kind::Writer => 3,
-            _ => 1,
+            Kind::Images | Kind::Program | Kind::Runs => 1,
         }
     }
 }

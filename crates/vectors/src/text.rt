@@ -1,11 +1,8 @@
 // What comes out of a line, as the vectors write it.
 use std::fmt;
 
-// What four bits that go out come back as: the polynomial of IEEE 802.3, lowest bit first.
-const FOUR_BITS: [u32; 16] = [
-    0x00000000, 0x1DB71064, 0x3B6E20C8, 0x26D930AC, 0x76DC4190, 0x6B6B51F4, 0x4DB26158, 0x5005713C,
-    0xEDB88320, 0xF00F9344, 0xD6D6A3E8, 0xCB61B38C, 0x9B64C2B0, 0x86D3D2D4, 0xA00AE278, 0xBDBDF21C,
-];
+// The polynomial of IEEE 802.3, lowest bit first.
+const POLYNOMIAL: u32 = 0xEDB88320;
 
 // Bytes in hex, a single '-' for none.
 #[derive(Clone, Copy)]
@@ -23,15 +20,19 @@ impl fmt::Display for Hex<'_> {
     }
 }
 
-// Four bits further: the remainder's lowest go out.
+// One bit further: the remainder's lowest goes out.
 fn step(crc: u32) -> u32 {
-    (crc >> 4) ^ FOUR_BITS[(crc & 15) as usize]
+    if crc % 2 == 1 {
+        (crc >> 1) ^ POLYNOMIAL
+    } else {
+        crc >> 1
+    }
 }
 
 pub fn crc32(bytes: &[u8]) -> u32 {
-    !bytes
-        .iter()
-        .fold(u32::MAX, |crc, &byte| step(step(crc ^ u32::from(byte))))
+    !bytes.iter().fold(u32::MAX, |crc, &byte| {
+        (0..8).fold(crc ^ u32::from(byte), |crc, _| step(crc))
+    })
 }
 
 // A word that the vectors do not have, where a byte from a place on is not as it was before.
