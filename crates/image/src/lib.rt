@@ -10,8 +10,8 @@ ghost use Rattle.image.specs.Fault.{number_of};
 ghost use Rattle.image.specs.Index.{slot_number_of, measurement_index_of};
 
 use limits::{
-    BROKEN_RECORD, INDEX_LIMIT, SLOT_LIMIT, TOO_MANY, WRONG_FIELD, WRONG_KIND, WRONG_LENGTH,
-    WRONG_OWN_LENGTH, WRONG_SIZE, WRONG_VERSION,
+    BROKEN_RECORD, INDEX_LIMIT, SLOT_COUNT, SLOT_LIMIT, TOO_MANY, WRONG_FIELD, WRONG_KIND,
+    WRONG_LENGTH, WRONG_OWN_LENGTH, WRONG_SIZE, WRONG_VERSION,
 };
 
 // Narrow entries: a table that is indexed stands on the stack, and is written there at each call.
@@ -24,8 +24,9 @@ const SIGNATURE_SIZES: [u16; 9] = [256, 256, 384, 384, 64, 512, 512, 96, 132];
 pub fn digest_size(hash: u8) -> usize
     ensures { (result ≡ digest_size hash) × (result ≤ digest_most) }
 {
-    let n = usize::from(hash);
-    if n < 6 { DIGEST_SIZES[n] as usize } else { 0 }
+    DIGEST_SIZES
+        .get(usize::from(hash))
+        .map_or(0, |&size| usize::from(size))
 }
 
 // The bytes of a signature of the algorithm with that bit number, 0 where there is none.
@@ -33,12 +34,9 @@ pub fn digest_size(hash: u8) -> usize
 pub fn signature_size(signature: u8) -> usize
     ensures { (result ≡ signature_size signature) × (result ≤ signature_most) }
 {
-    let n = usize::from(signature);
-    if n < 9 {
-        SIGNATURE_SIZES[n] as usize
-    } else {
-        0
-    }
+    SIGNATURE_SIZES
+        .get(usize::from(signature))
+        .map_or(0, |&size| usize::from(size))
 }
 
 // The number of a slot, 0 to 7: made only after its test.
@@ -107,7 +105,7 @@ pub struct Index {
     pub identity: Identity,
     pub chains: u8,
     pub measurements: u8,
-    pub places: [u16; 8],
+    pub places: [u16; SLOT_COUNT],
     pub first: u16,
 }
 

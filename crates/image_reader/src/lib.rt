@@ -157,7 +157,7 @@ fn walk(s: &[u8], identity: Identity) -> Result<Index, Fault>
 {
     let mut at: usize = IDENTITY_END;
     let mut w = image_records::seen_first(identity);
-    let mut bodies: [u16; 8] = [0; 8];
+    let mut bodies = [0; SLOT_COUNT];
     let mut first: u16 = 0;
     loop {
         let read = read_record(s, at, w);
