@@ -12,7 +12,7 @@ ghost use Rattle.image_reader.specs.Runs.{Head, Measuring, Run};
 
 use image::limits::{
     CHAIN_KIND, HEAD_LENGTH, IDENTITY_END, IDENTITY_KIND, IMAGE_LIMIT, IMAGE_VERSION, INDEX_LIMIT,
-    LABEL_LENGTH, MEASUREMENT_KIND, MEASUREMENTS_LIMIT, TYPE_LIMIT,
+    LABEL_LENGTH, MEASUREMENT_KIND, MEASUREMENTS_LIMIT, SLOT_COUNT, TYPE_LIMIT,
 };
 use image::{Fault, Identity, Index, Seen};
 
@@ -80,7 +80,7 @@ fn read_record(s: &[u8], at: usize, w: Seen) -> Result<Option<Record>, Fault>
 // Keeps where a chain's body starts. In place: an array that is made anew for each record is copied for each, and the copy waits for
 // the entry written before it.
 #[tactic(auto, using(wire::proofs::Picks::picks))]
-fn place_chain(bodies: &mut [u16; 8], frame: Frame, slot: u8)
+fn place_chain(bodies: &mut [u16; SLOT_COUNT], frame: Frame, slot: u8)
     requires { (frame.start ≤ image_limit) × (frame.kind ≡ chain_kind → slot ≤ slot_limit) }
     ensures { bodies.new ≡ bodies_after bodies.old frame.kind slot frame.start }
 {
