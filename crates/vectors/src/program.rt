@@ -9,7 +9,8 @@ use std::alloc::AllocError;
 // No part is so long; every so many lines a text is taken at once.
 const PART: usize = 97;
 
-// Takes a text in parts of a length, the last of them shorter; a length of 0: at once. The image's length, or the number of the first fault.
+// Takes a text in parts of a length, the last of them shorter; a length of 0: at once. Answers the image's length, or the number of the
+// first fault.
 fn make(text: &[u8], part: usize, image: &mut [u8; IMAGE_LIMIT]) -> Result<usize, u8> {
     let size = if part == 0 { text.len() } else { part };
     let mut room = image_lines::line_room();
