@@ -129,9 +129,13 @@ fn print_image(rt: &impl Print, bytes: &[u8]) -> io::Result<()> {
     }
 }
 
-// A read that fails ends the image, and output that cannot be written is left.
+// A read that fails ends the image, but for want of memory, and output that cannot be written is left.
 fn main(rt: HostRuntime) {
     let mut image = Vec::new(rt.alloc());
-    let _ = rt.reader().take(MOST as u64).read_to_end(&mut image);
+    let read = rt.reader().take(MOST as u64).read_to_end(&mut image);
+    if read.is_err_and(|error| error.kind() == io::ErrorKind::OutOfMemory) {
+        let _ = eprintln!(rt; "image_info: out of memory");
+        return;
+    }
     let _ = print_image(&rt, &image);
 }

@@ -15,6 +15,7 @@ const PART: usize = 4096;
 fn take_input(stdin: &mut impl Read, room: &mut [u8], image: &mut [u8]) -> io::Result<Text> {
     let mut part = [0u8; PART];
     let mut text = Text::start();
+    // bounded, since input of unknown length may have no end
     for _ in 0..u64::MAX {
         let n = stdin.read(&mut part)?;
         if n == 0 {
