@@ -6,11 +6,10 @@ use Prim.Native.Nat.{ℕ, ◌+◌, ◌≤◌, ◌<◌}
 use native.Mathlib.Omega.{arith}
 use lib.ListN.{length, get_or}
 use borrow.Author.Tests.{ltb-false, leb-false, eqb-true, eqb-false, eq-eqb, ne_eqb}
-use Rattle.wire.proofs.Picks.{when_true, when_false, either, not_first, not-second}
-use Rattle.image.specs.Limits.{image_limit, identity_length, chain_kind, measurement_kind, chain_limit, chains_limit, measurements_limit, slot_limit}
-use Rattle.image.specs.Reading.{found, unless, identity_fault, chain_fault, measurement_fault, summary_fault, record_fault}
+use Rattle.wire.proofs.Picks.{when_true, when_false, not_first, not-second}
+use Rattle.image.specs.Limits.{identity_length, chain_kind, measurement_kind, chain_limit, chains_limit, measurements_limit, slot_limit}
+use Rattle.image.specs.Reading.{identity_fault, chain_fault, measurement_fault, summary_fault, record_fault}
 use Rattle.image.specs.declared.Seen.{Seen}
-use Rattle.image_records.specs.Records.{held_of}
 
 pub identity-length : (body : List ℕ) → identity_fault body ≡ 0 → length body ≡ identity_length
 unfolding identity_fault
@@ -66,20 +65,3 @@ module _ (w : Seen) (kind : ℕ) (body : List ℕ) (f : record_fault w kind body
       let a₂ = not_first _ _ _ _ a₁.1 (λ z. omega arith) in
       let a₃ = not-second _ _ _ _ a₂.1 (λ z. omega arith) in
       record { first = ltb-false _ _ a₂.0; whole = eqb-true _ _ a₃.0 }
-
-  body-length : length body ≤ 1 + w.size + w.size + chain_limit
-  unfolding record_fault
-  body-length =
-      either _ _ _ _ _ f
-      (λ t _. omega (arith, (chain-fine (eqb-true kind chain_kind t)).most))
-      (λ t g. either _ _ _ _ _ g
-      (λ u _. omega (arith, (measurement-fine (eqb-true kind measurement_kind u)).whole))
-      (λ u _. omega (arith, (summary-fine (eqb-false kind chain_kind t) (eqb-false kind measurement_kind u)).whole)))
-
--- a record that was found good is no longer than an image
-pub good_length : (w v : Seen) (kind : ℕ) (body : List ℕ) → held_of w kind body ≡ found v → w.size < 256 → length body ≤ image_limit
-unfolding held_of unless
-good_length w v kind body e s =
-    either (length body ≤ image_limit) _ _ _ _ e
-    (λ t g. let l = body-length w kind body (eqb-true _ _ t) in omega arith)
-    (λ t g. let z : ◌≡◌ {A = ℕ} 0 1 = cc in absurd (omega arith))
