@@ -7,7 +7,7 @@ use Rattle.wire.specs.Bytes.{Bytes}
 use Rattle.image.specs.Contents.{Contents}
 use Rattle.image.specs.Held.{slot_digest, slot_mask, nth_measurement, measurement_of, tcb_summary, full_summary}
 use Rattle.image.specs.Index.{digest_at, mask_at, nth_at, measurement_at, summary_at}
-use Rattle.image.specs.Sizes.{digest_size, signature_size}
+use Rattle.image.specs.Sizes.{digest_size}
 use Rattle.image.specs.declared.Index.{Index}
 use Rattle.image.specs.Read.{ReadAs}
 use Rattle.image.proofs.Given.{held}
@@ -17,9 +17,6 @@ use Rattle.image.proofs.Given.{held}
 module _ {b : List ℕ} {ix : Index} {c : Contents} (r : ReadAs b ix c) where
   pub size_is : digest_size ix.identity.hash ≡ digest_size c.identity.hash
   size_is = ap (λ (i : Index). digest_size i.identity.hash) r.indexed
-
-  pub signature_is : signature_size ix.identity.signature ≡ signature_size c.identity.signature
-  signature_is = ap (λ (i : Index). signature_size i.identity.signature) r.indexed
 
   pub count_is : ix.measurements ≡ length c.measurements
   count_is = ap (λ (i : Index). i.measurements) r.indexed

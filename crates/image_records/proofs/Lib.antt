@@ -1,3 +1,2 @@
 pub mod Good
 pub mod Seeing
-pub mod Slots
