@@ -1,4 +1,6 @@
 -- Every reply has room in a word: its number is one of the table's, and its answer is no longer than a message. Assumes nothing.
+use Rattle.std.specs.Prelude.{Ok, Err, IsErrAnd, Result as Answer}
+use Rattle.std.proofs.lemmas.Result.{err_from_is_err_and}
 use mathlib.Core.Path.{◌≡◌, refl, sym, ◌∙◌, subst}
 use mathlib.Core.Bool.{Bool}
 use mathlib.Core.List.{List}
@@ -10,6 +12,13 @@ use Rattle.wire.specs.Bytes.{Bytes, splice}
 use Rattle.wire.proofs.Picks.{pick_case, not_first}
 use Rattle.image.specs.Contents.{Contents}
 use Rattle.image.specs.Reading.{Result, number, found, reading}
+use Rattle.image.specs.Fault.{number_of, told}
+use Rattle.image.specs.Index.{answer_of}
+use Rattle.image.specs.declared.Fault.{Fault}
+use Rattle.image.specs.declared.Index.{Index}
+use Rattle.image.proofs.Verdicts.{number_read}
+use Rattle.rules.specs.declared.HostError.{HostError}
+use Rattle.rules.specs.declared.HostError.TheVariants.{Image}
 use Rattle.rules.specs.Limits.{message_limit, wrong_signature}
 use Rattle.rules.specs.Facts.{Facts, facts_of}
 use Rattle.rules.specs.Effects.{Effect, host, refuse, accept, effect_of, effect_by, reply_of}
@@ -19,12 +28,13 @@ use Rattle.rules.specs.declared.Lengths.{Lengths}
 use Rattle.rules.specs.Decision.{Decision}
 use Rattle.rules.specs.Finish.{Finish}
 use Rattle.rules.specs.Finish as finish
-use Rattle.rules.specs.Reply.{Reply}
+use Rattle.rules.specs.Reply.{Reply, replied}
 use Rattle.rules.specs.Reply as reply
 use Rattle.rules.proofs.Told.{FinishTold, finish-told}
 use Rattle.rules.proofs.Ready.{Ready, ready-image}
 use Rattle.spdm_responder.specs.Words.{result_of, Fits, read_reply}
-use Rattle.spdm_responder.specs.ToSign.{part_words, show_reply, parts_of, Shown}
+use Rattle.spdm_responder.specs.ToSign.{show_reply}
+use Rattle.spdm_responder.specs.ImageAlgorithms.{room_reply, algorithms_reply}
 use Rattle.spdm_responder.proofs.ShownLaws.{prefix-long}
 use Rattle.spdm_responder.proofs.Numbers.{Few, few-number, few-refused, few-accepted, few, FewRead, few-read}
 
@@ -98,33 +108,32 @@ shown-fits s prefix parts =
     pick_case Fits _ _ _ (λ _. omega arith) (λ _. pick_case Fits _ _ _ (λ _. omega arith)
     (λ _. pick_case Fits _ _ _ (λ _. pick_case Fits _ _ _ (λ _. omega arith) (λ _. prefix-fits s)) (λ _. omega arith)))
 
--- an answer is no number
-pub no_number : {k n : ℕ} → reply.Number k ≡ reply.Answer n → ⊥
-no_number z = let w : ◌≡◌ {A = ℕ} 0 1 = cc in omega arith
+-- what is told of an image: the reader's number, 11, or no number
+pub algorithms_fits : (b : List ℕ) (room : ℕ) → Fits (algorithms_reply (reading b) room)
+unfolding room_reply
+algorithms_fits b room = by (reading b) (few-read b)
+  where
+    by : (x : Result Contents) → FewRead x → Fits (algorithms_reply x room)
+    by (number k) h = omega arith
+    by (found c) h = pick_case Fits _ _ _ (λ _. omega arith) (λ _. omega arith)
 
-roomy : (s : State) (prefix parts n : ℕ) → show_reply s prefix parts ≡ reply.Answer n → part_words ≤ parts
-unfolding show_reply
-roomy s prefix parts n e =
-    let a = not_first _ _ _ _ e (λ z. no_number z) in
-    let b = not_first _ _ _ _ a.1 (λ z. no_number z) in
-    ltb-false _ _ b.0
+-- so does a reply of the code that comes to one of them
+module _ (a : Answer ℕ HostError) where
+  pub fits-to_sign : (s : State) (prefix parts : ℕ) → replied a ≡ show_reply s prefix parts → Fits (replied a)
+  fits-to_sign s prefix parts e = rw e (shown-fits s prefix parts)
 
-module _ (s : State) (prefix parts : ℕ) {y : Reply} (e : y ≡ show_reply s prefix parts) where
-  pub fits-shown : Fits y
-  fits-shown = subst Fits (sym e) (shown-fits s prefix parts)
+  pub fits-read : (b : List ℕ) → replied a ≡ read_reply (reading b) → Fits (replied a)
+  fits-read b e = rw e (read_fits b)
 
-  -- where the parts are shown, there is room for them
-  pub room-shown : {n : ℕ} → y ≡ reply.Answer n → part_words ≤ parts
-  room-shown g = roomy s prefix parts _ (sym e ∙ g)
+  pub fits-told : (b : List ℕ) (room : ℕ) → replied a ≡ algorithms_reply (reading b) room → Fits (replied a)
+  fits-told b room e = rw e (algorithms_fits b room)
 
--- a number: nothing is written
-pub shown-number : {s : State} (l out : List ℕ) {y : Reply} → y ≡ show_reply s (length l) (length out) → {n : ℕ} → y ≡ reply.Number n
-    → {r : ℕ} → r ≡ result_of y → Shown (show_reply s (length l) (length out)) s l l out out r
-unfolding splice
-shown-number l out e g w = rw (sym e ∙ g) (record { result = w ∙ rw g; prefix = refl; parts = refl })
+pub ruleset fits = (fits-to_sign, fits-read, fits-told)
 
--- else the prefix and the parts
-pub shown-answer : {s : State} {l l' out out' : List ℕ} {y : Reply} → y ≡ show_reply s (length l) (length out) → {n : ℕ} → y ≡ reply.Answer n
-    → l' ≡ splice l 0 (prefix_of s.negotiated s.awaited.whose) → out' ≡ splice out 0 (parts_of s)
-    → {r : ℕ} → r ≡ result_of y → Shown (show_reply s (length l) (length out)) s l l' out out' r
-shown-answer e g p q w = rw (sym e ∙ g) (record { result = w ∙ rw g; prefix = p; parts = q })
+-- a refused image reads as its number, and the reply that ? makes of the fault says it
+module _ (b : List ℕ) (f : Fault) (e : told {A = Index} (Err f) ≡ answer_of (reading b)) (r : Answer ℕ HostError) (i : IsErrAnd r (λ x. x ≡ Image f)) where
+  pub refused-reads : reading b ≡ number (number_of f)
+  refused-reads = number_read b e f refl
+
+  pub refused-says : replied r ≡ reply.Number (number_of f)
+  refused-says = let w = err_from_is_err_and r i in rw (w.1, w.2)

@@ -9,7 +9,7 @@ use lib.ListN.{length, get_or}
 use lib.Dec.{eqb}
 use Rattle.wire.specs.Bytes.{part}
 use Rattle.wire.specs.Pick.{pick}
-use Rattle.wire.proofs.Picks.{pick_case, pick-map}
+use Rattle.wire.proofs.Picks.{picks, pick_case, pick-map}
 use Rattle.rules.specs.Limits.{version11, transcript_length, a_limit, b_limit, m_limit, a_start, b_start, m_start, awaits_nothing, awaits_challenge, awaits_measurements}
 use Rattle.rules.specs.Facts.{Facts}
 use Rattle.rules.specs.Header.{by_edition, version_of}
@@ -70,6 +70,9 @@ prefix-long n whose =
     pick-map (λ (l : List ℕ). length l) _ _ _ _ _ (λ _. refl) (λ _.
     pick-map (λ (l : List ℕ). length l) _ _ _ _ _ (λ _. refl) (λ _.
     pick-map (λ (l : List ℕ). length l) _ _ _ _ _ (λ _. refl) (λ _. refl)))
+
+-- the prefix's length by the tests of the definition
+pub ruleset prefixes = (prefix-long, picks)
 
 -- a state that is shown names parts within the transcript that calls ask for
 module _ (s : State) (h : own_bounds s ≡ true) where

@@ -1,14 +1,21 @@
--- The host's words: as many stores as there are words leave nothing of what stood there. Assumes nothing.
-use mathlib.Core.Path.{◌≡◌, ap, ◌∙◌}
-use mathlib.Core.List.{List, [], ◌++◌, append-nil}
-use Prim.Native.Nat.{ℕ, ◌+◌, ◌≤◌}
+-- Words that are copied to the front of a buffer are the run of stores that the definitions name. Assumes nothing.
+use mathlib.Core.Path.{◌≡◌, refl, ◌∙◌}
+use mathlib.Core.List.{List, [], ◌++◌}
+use Prim.Native.Nat.{ℕ, ◌≤◌}
 use native.Mathlib.Omega.{arith}
-use lib.ListN.{length, drop, drop_of_length-le}
+use native.Mathlib.Nat.{zero-add}
+use lib.ListN.{length, drop}
 use Rattle.wire.specs.Bytes.{splice}
 use Rattle.wire.proofs.Laws.{splice-parts}
+use Rattle.wire.proofs.Picks.{picks}
 
-pub all_stored : (l xs : List ℕ) → length l ≡ length xs → splice l 0 xs ≡ xs
-all_stored l xs e =
-    let h : length l ≤ 0 + length xs = omega arith in
-    let d : drop (0 + length xs) l ≡ [] = drop_of_length-le l h in
-    splice-parts l 0 xs (omega arith) ∙ ap (λ (r : List ℕ). xs ++ r) d ∙ append-nil xs
+pub stored : (l xs ys : List ℕ) (n : ℕ) → xs ≡ ys → length xs ≡ n → n ≤ length l → xs ++ drop n l ≡ splice l 0 ys
+stored l xs ys n p e h = rw (← p, splice-parts l 0 xs (omega arith), zero-add, e)
+
+pub none_stored : (l ys : List ℕ) → [] ≡ ys → l ≡ splice l 0 ys
+unfolding splice
+none_stored l ys p = rw (← p)
+
+pub ruleset stores = (none_stored, picks)
+
+pub ruleset copies = (stored, none_stored)

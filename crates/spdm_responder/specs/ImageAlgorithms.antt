@@ -9,8 +9,6 @@ use Rattle.image.specs.Held.{slot_mask}
 use Rattle.image.specs.Index.{mask_at}
 use Rattle.image.specs.Reading.{Result, number, found}
 use Rattle.image.specs.declared.Index.{Index}
-use Rattle.image.specs.declared.Verdict.{Verdict}
-use Rattle.image.specs.declared.Verdict.TheVariants as verdict
 use Rattle.rules.specs.Limits.{short_answer}
 use Rattle.rules.specs.Reply.{Reply}
 use Rattle.rules.specs.Reply as reply
@@ -53,12 +51,7 @@ pub record AlgorithmsTold (x : Result Contents) (out out' : List ℕ) (r : ℕ) 
   pub result : r ≡ result_of (algorithms_reply x (length out))
   pub words : out' ≡ splice out 0 (algorithms_told x (length out))
 
--- The code's view of the same, by the reader's verdict and index; no promise of a public function rests on it.
-
-abbrev pub verdict_reply : Verdict → ℕ → Reply
-verdict_reply (verdict.Refused k) room = reply.Number k
-verdict_reply verdict.Accepted room = room_reply room
-
+-- The words by the reader's index, which is the code's view of the same; no promise of a public function rests on it.
 abbrev pub algorithms_in : Index → List ℕ
 algorithms_in ix =
     ix.identity.exponent

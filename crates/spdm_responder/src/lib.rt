@@ -2,24 +2,24 @@
 // answer length. Nothing is asked of a caller but lent memory: every length is tested.
 #![tactic(auto)]
 
-ghost use Rattle.std.specs.Prelude.{◌≡◌, [], ◌∷◌, ◌≤◌, length};
+ghost use Rattle.std.specs.Prelude.{◌≡◌, ◌≤◌, length};
 ghost use Rattle.wire.specs.Bytes.{splice};
 ghost use Rattle.image.specs.Reading.{reading};
 ghost use Rattle.rules.specs.Effects.{Effect, effect_by};
 ghost use Rattle.rules.specs.Signing.{prefix_of, before_m, finish_by};
 ghost use Rattle.rules.specs.Box.{Lent, lengths_of};
-ghost use Rattle.rules.specs.declared.Finish.{Finish};
-ghost use Rattle.spdm_responder.specs.Words.{no_state, state_in, words_after, result_of, Fits, read_reply, chip_ok};
+ghost use Rattle.rules.specs.Finish.{Finish};
+ghost use Rattle.rules.specs.Reply.{Reply, replied};
+ghost use Rattle.spdm_responder.specs.Words.{no_state, state_in, words_of, words_after, result_of, Fits, read_reply, chip_ok};
 ghost use Rattle.spdm_responder.specs.Calls.{Asked, Signed};
-ghost use Rattle.spdm_responder.specs.ToSign.{show_reply, parts_of, Shown};
-ghost use Rattle.spdm_responder.specs.ImageAlgorithms.{verdict_reply, algorithms_in, AlgorithmsTold};
+ghost use Rattle.spdm_responder.specs.ToSign.{part_words, show_reply, shown_prefix, shown_parts, parts_of, Shown};
+ghost use Rattle.spdm_responder.specs.ImageAlgorithms.{algorithms_in, algorithms_reply, algorithms_told, AlgorithmsTold};
 
-use image::{Index, Verdict};
+use image::Index;
 use rules::limits::{
-    A_START, AWAITS_CHALLENGE, AWAITS_MEASUREMENTS, AWAITS_NOTHING, B_START, M_START,
-    NOTHING_AWAITED, SHORT_ANSWER, VERSION_11, WRONG_STATE,
+    A_START, AWAITS_CHALLENGE, AWAITS_MEASUREMENTS, AWAITS_NOTHING, B_START, M_START, VERSION_11,
 };
-use rules::{Awaited, Negotiated, Reply, State, Used};
+use rules::{Awaited, HostError, Negotiated, State, Used};
 
 // The C interface's own sizes; those of the paper are rules'.
 const STATE_WORDS: usize = 9;
@@ -39,72 +39,69 @@ fn no_state() -> State
     ensures { result ≡ no_state }
 {
     let fresh = state::fresh();
-    let n = fresh.negotiated;
-    let negotiated = Negotiated {
-        phase: NO_PHASE,
-        ..n
-    };
     State {
-        negotiated,
+        negotiated: Negotiated {
+            phase: NO_PHASE,
+            ..fresh.negotiated
+        },
         ..fresh
     }
 }
 
-// The state that the words hold.
+// The state that the words hold. They stay words, as C lends them: which of them make a state is number 14's test, in state.
+#[tactic(auto, using(wire::proofs::Picks::picks), unfolding(crate::specs::Words::state_in))]
 fn state_in(words: &[u32]) -> State
     ensures { result ≡ state_in words.now }
 {
-    if words.len() != STATE_WORDS {
+    let &[phase, peer, selection, a, b, m, whose, length, edition] = words else {
         return no_state();
-    }
+    };
     State {
         negotiated: Negotiated {
-            edition: words[8],
-            phase: words[0],
-            peer: words[1],
-            selection: words[2],
+            edition,
+            phase,
+            peer,
+            selection,
         },
-        used: Used {
-            a: words[3],
-            b: words[4],
-            m: words[5],
-        },
-        awaited: Awaited {
-            whose: words[6],
-            length: words[7],
-        },
+        used: Used { a, b, m },
+        awaited: Awaited { whose, length },
     }
+}
+
+fn words_of(s: State) -> [u32; STATE_WORDS]
+    ensures { result ≡ words_of s }
+{
+    [
+        s.negotiated.phase,
+        s.negotiated.peer,
+        s.negotiated.selection,
+        s.used.a,
+        s.used.b,
+        s.used.m,
+        s.awaited.whose,
+        s.awaited.length,
+        s.negotiated.edition,
+    ]
 }
 
 // Puts a state where the host keeps it; any other number of words stays as it is.
+#[tactic(auto, using(wire::proofs::Picks::picks), unfolding(crate::specs::Words::words_after))]
 fn put_state(words: &mut [u32], s: State)
     ensures { words.new ≡ words_after words.old s }
 {
-    if words.len() != STATE_WORDS {
-        return;
+    if words.len() == STATE_WORDS {
+        words.copy_from_slice(&words_of(s));
     }
-    let n = s.negotiated;
-    let u = s.used;
-    let w = s.awaited;
-    words[0] = n.phase;
-    words[1] = n.peer;
-    words[2] = n.selection;
-    words[3] = u.a;
-    words[4] = u.b;
-    words[5] = u.m;
-    words[6] = w.whose;
-    words[7] = w.length;
-    words[8] = n.edition;
 }
 
 // What a call returns to the host.
-fn result_of(r: Reply) -> u32
-    requires { Fits r }
-    ensures { result ≡ result_of r }
+fn result_of(reply: Result<usize, HostError>) -> u32
+    requires { Fits (replied reply) }
+    ensures { result ≡ result_of (replied reply) }
 {
-    match r {
-        Reply::Number(n) => n * NUMBER_UNIT,
-        Reply::Answer(n) => n as u32,
+    match reply {
+        Ok(length) => length as u32,
+        Err(error) => error.number() * NUMBER_UNIT,
     }
 }
 
@@ -126,21 +123,9 @@ pub extern "C" fn spdm_respond(
         Asked e state.old state.new before after result) }
 {
     let s = state_in(state);
-    let o = responder::respond(image, s, transcript, answer, request, nonce);
-    let reply = o.reply;
-    let next = o.state;
-    put_state(state, next);
-    result_of(reply)
-}
-
-// The chip's result: 0 failed, anything else succeeded.
-fn chip_ok(chip: u32) -> bool
-    ensures { result ≡ chip_ok chip }
-{
-    if chip == 0 {
-        return false;
-    }
-    true
+    let outcome = responder::respond(image, s, transcript, answer, request, nonce);
+    put_state(state, outcome.state);
+    result_of(outcome.reply)
 }
 
 // Finishes the awaited answer: chip is 0 where the chip failed, and the signature is not looked at then.
@@ -160,168 +145,136 @@ pub extern "C" fn spdm_finish(
         Signed d state.old state.new answer.old answer.new signature.now result) }
 {
     let s = state_in(state);
-    let ok = chip_ok(chip);
-    let o = signing::finish(image, s, transcript, answer, ok, signature);
-    let reply = o.reply;
-    let next = o.state;
-    put_state(state, next);
-    result_of(reply)
+    let outcome = signing::finish(image, s, transcript, answer, chip != 0, signature);
+    put_state(state, outcome.state);
+    result_of(outcome.reply)
 }
 
 // The prefix's length: under 1.1, and where no signature is awaited, there is none.
+#[tactic(auto, using(crate::proofs::ShownLaws::prefixes))]
 fn prefix_shown(s: State) -> usize
     ensures { result ≡ length (prefix_of s.negotiated s.awaited.whose) }
 {
-    let n = s.negotiated;
-    let w = s.awaited;
-    if state::version_of(n) == VERSION_11 {
+    if state::version_of(s.negotiated) == VERSION_11 {
         return 0;
     }
-    if w.whose == AWAITS_CHALLENGE {
-        return PREFIX_LENGTH;
+    match s.awaited.whose {
+        AWAITS_CHALLENGE | AWAITS_MEASUREMENTS => PREFIX_LENGTH,
+        _ => 0,
     }
-    if w.whose == AWAITS_MEASUREMENTS {
-        return PREFIX_LENGTH;
-    }
-    0
-}
-
-// A number, or the prefix's length.
-#[tactic(auto, using(wire::proofs::Picks::picks), unfolding(crate::specs::ToSign::show_reply))]
-fn decide_show(s: State, prefix: usize, parts: usize) -> Reply
-    ensures { result ≡ show_reply s prefix parts }
-{
-    if prefix < PREFIX_LENGTH {
-        return Reply::Number(SHORT_ANSWER);
-    }
-    if parts < PART_WORDS {
-        return Reply::Number(SHORT_ANSWER);
-    }
-    if !state::own_bounds(s) {
-        return Reply::Number(WRONG_STATE);
-    }
-    let w = s.awaited;
-    if w.whose == AWAITS_NOTHING {
-        return Reply::Number(NOTHING_AWAITED);
-    }
-    Reply::Answer(prefix_shown(s))
-}
-
-fn write_four(out: &mut [u32], a: u32, b: u32, c: u32, d: u32)
-    requires { 4 ≤ length out.old }
-    ensures { out.new ≡ splice out.old 0 (a ∷ b ∷ c ∷ d ∷ []) }
-{
-    out[0] = a;
-    out[1] = b;
-    out[2] = c;
-    out[3] = d;
 }
 
 // The bytes of A that are hashed before M: under 1.1 none.
+#[tactic(auto, using(wire::proofs::Picks::picks))]
 fn used_before_m(s: State) -> u32
     ensures { result ≡ before_m s.negotiated 0 s.used.a }
 {
-    let n = s.negotiated;
-    let u = s.used;
-    if state::version_of(n) == VERSION_11 {
-        return 0;
+    if state::version_of(s.negotiated) == VERSION_11 {
+        0
+    } else {
+        s.used.a
     }
-    u.a
 }
 
 // Offset and length of A, then of B or M; under 1.1 nothing of A stands before M.
-fn write_parts(s: State, out: &mut [u32])
-    requires { 4 ≤ length out.old }
-    ensures { out.new ≡ splice out.old 0 (parts_of s) }
+#[tactic(auto, using(wire::proofs::Picks::picks), unfolding(crate::specs::ToSign::parts_of, wire::specs::Bytes::splice))]
+fn write_parts(s: State, parts: &mut [u32])
+    requires { part_words ≤ length parts.old }
+    ensures { parts.new ≡ splice parts.old 0 (parts_of s) }
 {
     let u = s.used;
-    let w = s.awaited;
-    if w.whose == AWAITS_CHALLENGE {
-        write_four(out, A_START as u32, u.a, B_START as u32, u.b);
-        return;
+    match s.awaited.whose {
+        AWAITS_CHALLENGE => {
+            parts[..PART_WORDS].copy_from_slice(&[A_START as u32, u.a, B_START as u32, u.b]);
+        }
+        AWAITS_MEASUREMENTS => {
+            let a = used_before_m(s);
+            parts[..PART_WORDS].copy_from_slice(&[A_START as u32, a, M_START as u32, u.m]);
+        }
+        _ => {}
     }
-    if w.whose == AWAITS_MEASUREMENTS {
-        write_four(out, A_START as u32, used_before_m(s), M_START as u32, u.m);
+}
+
+// What to hash and sign is written, or the number that comes first; the prefix's length.
+#[tactic(auto, using(crate::proofs::WordLaws::stores), unfolding(crate::specs::ToSign::show_reply))]
+fn show_to_sign(s: State, prefix: &mut [u8], parts: &mut [u32]) -> Result<usize, HostError>
+    ensures reply { replied result ≡ show_reply s (length prefix.old) (length parts.old) }
+    ensures prefix { prefix.new ≡ splice prefix.old 0 (shown_prefix (replied result) s) }
+    ensures parts { parts.new ≡ splice parts.old 0 (shown_parts (replied result) s) }
+{
+    if prefix.len() < PREFIX_LENGTH || parts.len() < PART_WORDS {
+        return Err(HostError::ShortAnswer);
     }
+    if !state::own_bounds(s) {
+        return Err(HostError::WrongState);
+    }
+    if s.awaited.whose == AWAITS_NOTHING {
+        return Err(HostError::NothingAwaited);
+    }
+    signing::write_prefix(s, prefix);
+    write_parts(s, parts);
+    Ok(prefix_shown(s))
 }
 
 // What to hash and sign for the state that the host holds.
 #[unsafe(no_mangle)]
+#[tactic(auto, using(crate::proofs::Replies::fits))]
 pub extern "C" fn spdm_to_sign(state: &[u32], prefix: &mut [u8], parts: &mut [u32]) -> u32
     ensures { (
         let s : State = state_in state.now in
         let y : Reply = show_reply s (length prefix.old) (length parts.old) in
         Shown y s prefix.old prefix.new parts.old parts.new result) }
 {
-    let s = state_in(state);
-    let reply = decide_show(s, prefix.len(), parts.len());
-    match reply {
-        Reply::Number(_) => result_of(reply),
-        Reply::Answer(_) => {
-            signing::write_prefix(s, prefix);
-            write_parts(s, parts);
-            result_of(reply)
-        }
-    }
+    result_of(show_to_sign(state_in(state), prefix, parts))
+}
+
+fn read(image: &[u8]) -> Result<usize, HostError>
+    ensures { replied result ≡ read_reply (reading image.now) }
+{
+    image_reader::read_image(image)?;
+    Ok(0)
 }
 
 // Whether an image is accepted: 0, or the number of its first fault.
 #[unsafe(no_mangle)]
+#[tactic(auto, using(crate::proofs::Replies::fits))]
 pub extern "C" fn spdm_read_image(image: &[u8]) -> u32
     ensures { result ≡ result_of (read_reply (reading image.now)) }
 {
-    let read = image_reader::read_image(image);
-    let verdict = read.verdict;
-    match verdict {
-        Verdict::Refused(n) => result_of(Reply::Number(n as u32)),
-        Verdict::Accepted => result_of(Reply::Answer(0)),
-    }
+    result_of(read(image))
 }
 
-// The image's number, or 11 where there is no room for the words.
-#[tactic(auto, using(wire::proofs::Picks::picks), unfolding(crate::specs::ImageAlgorithms::room_reply))]
-fn decide_algorithms(verdict: Verdict, room: usize) -> Reply
-    ensures { result ≡ verdict_reply verdict room }
+fn algorithms_of(ix: Index) -> [u32; ALGORITHMS_WORDS]
+    ensures { result ≡ algorithms_in ix }
 {
-    match verdict {
-        Verdict::Refused(n) => Reply::Number(n as u32),
-        Verdict::Accepted => {
-            if room < ALGORITHMS_WORDS {
-                return Reply::Number(SHORT_ANSWER);
-            }
-            Reply::Answer(0)
-        }
-    }
+    [
+        u32::from(ix.identity.exponent),
+        u32::from(ix.identity.hash),
+        image::digest_size(ix.identity.hash) as u32,
+        u32::from(ix.identity.signature),
+        image::signature_size(ix.identity.signature) as u32,
+        u32::from(image_lookup::slot_mask(ix)),
+        u32::from(ix.measurements),
+    ]
 }
 
-fn write_algorithms(ix: Index, out: &mut [u32])
-    requires { 7 ≤ length out.old }
-    ensures { out.new ≡ splice out.old 0 (algorithms_in ix) }
+fn tell_algorithms(image: &[u8], algorithms: &mut [u32]) -> Result<usize, HostError>
+    ensures reply { replied result ≡ algorithms_reply (reading image.now) (length algorithms.old) }
+    ensures words { algorithms.new ≡ splice algorithms.old 0 (algorithms_told (reading image.now) (length algorithms.old)) }
 {
-    let id = ix.identity;
-    out[0] = id.exponent as u32;
-    out[1] = id.hash as u32;
-    out[2] = image::digest_size(id.hash) as u32;
-    out[3] = id.signature as u32;
-    out[4] = image::signature_size(id.signature) as u32;
-    out[5] = image_lookup::slot_mask(ix) as u32;
-    out[6] = ix.measurements as u32;
+    let index = image_reader::read_image(image)?;
+    if algorithms.len() < ALGORITHMS_WORDS {
+        return Err(HostError::ShortAnswer);
+    }
+    algorithms[..ALGORITHMS_WORDS].copy_from_slice(&algorithms_of(index));
+    Ok(0)
 }
 
 // What an image says of its algorithms, slots and measurements.
 #[unsafe(no_mangle)]
+#[tactic(auto, using(crate::proofs::Replies::fits))]
 pub extern "C" fn spdm_image_algorithms(image: &[u8], algorithms: &mut [u32]) -> u32
     ensures { AlgorithmsTold (reading image.now) algorithms.old algorithms.new result }
 {
-    let read = image_reader::read_image(image);
-    let verdict = read.verdict;
-    let index = read.index;
-    let told = decide_algorithms(verdict, algorithms.len());
-    match told {
-        Reply::Number(_) => result_of(told),
-        Reply::Answer(_) => {
-            write_algorithms(index, algorithms);
-            result_of(told)
-        }
-    }
+    result_of(tell_algorithms(image, algorithms))
 }

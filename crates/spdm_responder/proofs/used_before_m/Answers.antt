@@ -1,9 +1,0 @@
--- The version byte decides, as in the definition. Assumes nothing.
-use Rattle.wire.proofs.Picks.{picks}
-use Rattle.spdm_responder.proofs.used_before_m.Goals as goal
-
-pub returns-then-version_of-eq-VERSION_11 : goal.returns-then-version_of-eq-VERSION_11
-returns-then-version_of-eq-VERSION_11 c = rw (← c.version_of.ensures) (search picks depth 8)
-
-pub returns : goal.returns
-returns c = rw (← c.version_of.ensures) (search picks depth 8)
