@@ -65,7 +65,7 @@ struct Record {
 }
 
 // The record at a place, held against those before it.
-#[tactic(auto, using(crate::proofs::Frames::records), unfolding(crate::specs::Steps::record_of, image::specs::Reading::unless))]
+#[tactic(auto, using(crate::proofs::Frames::records), unfolding(crate::specs::Steps::record_of, crate::specs::Steps::held_record, image::specs::Reading::unless))]
 fn read_record(s: &[u8], at: usize, w: Seen) -> Result<Option<Record>, Fault>
     ensures { told result ≡ record_of s.now w (frame_at s.now at) }
 {
@@ -78,25 +78,25 @@ fn read_record(s: &[u8], at: usize, w: Seen) -> Result<Option<Record>, Fault>
 }
 
 // Keeps where a chain's body starts. In place: an array that is made anew for each record is copied for each, and the copy waits for
-// the entry written before it.
+// the entry written before it. Handed the frame whole, this and the next take a tenth more of the reader's instructions.
 #[tactic(auto, using(wire::proofs::Picks::picks))]
-fn place_chain(bodies: &mut [u16; SLOT_COUNT], frame: Frame, slot: u8)
-    requires { (frame.start ≤ image_limit) × (frame.kind ≡ chain_kind → slot ≤ slot_limit) }
-    ensures { bodies.new ≡ bodies_after bodies.old frame.kind slot frame.start }
+fn place_chain(bodies: &mut [u16; SLOT_COUNT], kind: u8, slot: u8, start: usize)
+    requires { (start ≤ image_limit) × (kind ≡ chain_kind → slot ≤ slot_limit) }
+    ensures { bodies.new ≡ bodies_after bodies.old kind slot start }
 {
-    if frame.kind == CHAIN_KIND {
-        bodies[usize::from(slot)] = frame.start as u16;
+    if kind == CHAIN_KIND {
+        bodies[usize::from(slot)] = start as u16;
     }
 }
 
 // Where the first measurement's body starts: a later one does not move it.
 #[tactic(auto, using(wire::proofs::Picks::picks))]
-fn first_after(first: u16, w: Seen, frame: Frame) -> u16
-    requires { frame.start ≤ image_limit }
-    ensures { result ≡ first_after first w frame.kind frame.start }
+fn first_after(first: u16, w: Seen, kind: u8, start: usize) -> u16
+    requires { start ≤ image_limit }
+    ensures { result ≡ first_after first w kind start }
 {
-    if frame.kind == MEASUREMENT_KIND && w.measurements == 0 {
-        frame.start as u16
+    if kind == MEASUREMENT_KIND && w.measurements == 0 {
+        start as u16
     } else {
         first
     }
@@ -116,25 +116,27 @@ fn head_at(s: &[u8], at: usize) -> usize
 }
 
 // Good measurement records that stand one behind the other, from a place behind a good one on. They are all of one length, and their
-// heads, index included, rise from one to the next. Where the run ends, the plain step says what stands there.
+// heads, index included, rise from one to the next. Where the run ends, the plain step says what stands there. The place, the count and the
+// last head are all wanted behind the loop.
 fn run_from(s: &[u8], from: usize, w: Seen) -> (usize, Seen)
     requires { (from ≤ length s.now) × ((length s.now ≤ image_limit) × Measuring w) }
     ensures { Run s.now from w result.0 result.1 }
 {
     let size = usize::from(w.size);
     let stride = HEAD_LENGTH + (LABEL_LENGTH + size);
-    // The heads of such records: without an index, and with the highest.
+    // The head of such a record, its index left off.
     let base = (LABEL_LENGTH + size) * LENGTH_UNIT + usize::from(MEASUREMENT_KIND) * KIND_UNIT;
-    let top = base + usize::from(INDEX_LIMIT);
-    let left = usize::from(MEASUREMENTS_LIMIT - w.measurements);
-    let end = s.len().min(from + left * stride);
+    let room = usize::from(MEASUREMENTS_LIMIT - w.measurements) * stride;
+    let end = s.len().min(from + room);
     let mut at = from;
     let mut n = w.measurements;
     let mut last = base + usize::from(w.index);
-    // Not a `for`: the place, the count and the last head are all wanted behind the loop.
     while at + stride <= end {
         let head = head_at(s, at);
-        if head <= last || top < head || TYPE_LIMIT < s[at + HEAD_LENGTH + 1] {
+        if head <= last || base + usize::from(INDEX_LIMIT) < head {
+            break;
+        }
+        if TYPE_LIMIT < s[at + HEAD_LENGTH + 1] {
             break;
         }
         last = head;
@@ -149,7 +151,7 @@ fn run_from(s: &[u8], from: usize, w: Seen) -> (usize, Seen)
     (at, seen)
 }
 
-// The records behind the identity, one after the other; measurements behind the first by runs.
+// The records behind the identity, one after the other; measurements behind the first by runs. The first fault is the loop's value.
 #[tactic(auto, using(crate::proofs::Turns::turns))]
 fn walk(s: &[u8], identity: Identity) -> Result<Index, Fault>
     requires { (length s.now ≤ image_limit) × (identity_fault (identity_body identity) ≡ 0) }
@@ -161,7 +163,6 @@ fn walk(s: &[u8], identity: Identity) -> Result<Index, Fault>
     let mut first: u16 = 0;
     loop {
         let read = read_record(s, at, w);
-        // Not by `?`: the first fault leaves the loop as its value.
         let Ok(found) = read else {
             break Err(read.unwrap_err());
         };
@@ -174,8 +175,8 @@ fn walk(s: &[u8], identity: Identity) -> Result<Index, Fault>
                 first,
             });
         };
-        place_chain(&mut bodies, frame, next.slot);
-        first = first_after(first, w, frame);
+        place_chain(&mut bodies, frame.kind, next.slot, frame.start);
+        first = first_after(first, w, frame.kind, frame.start);
         w = next;
         at = frame.end;
         if frame.kind == MEASUREMENT_KIND {
@@ -185,7 +186,7 @@ fn walk(s: &[u8], identity: Identity) -> Result<Index, Fault>
 }
 
 // The identity, and the records behind it.
-#[tactic(auto, using(crate::proofs::First::firsts), unfolding(image::specs::Reading::unless, image::specs::Index::answer_of))]
+#[tactic(auto, using(crate::proofs::First::firsts), unfolding(crate::specs::Steps::first_read, image::specs::Reading::unless, image::specs::Index::answer_of))]
 fn read_records(s: &[u8]) -> Result<Index, Fault>
     requires { length s.now ≤ image_limit }
     ensures { told result ≡ answer_of (first_read s.now (frame_at s.now 1)) }

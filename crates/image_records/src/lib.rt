@@ -3,7 +3,7 @@
 
 ghost use Rattle.std.specs.Prelude.{◌≡◌, get_or};
 ghost use Rattle.image.specs.Fault.{told, fault_told};
-ghost use Rattle.image.specs.Reading.{identity_in, field_fault, identity_fault, slot_wrong, chain_fault, measurement_fault, summary_fault};
+ghost use Rattle.image.specs.Reading.{identity_in, field_fault, identity_fault, chain_fault, measurement_fault, summary_fault};
 ghost use Rattle.image.specs.Reading.{record_fault, end_fault};
 ghost use Rattle.image_records.specs.Records.{seen_first, seen_after, held_of};
 
@@ -66,18 +66,6 @@ pub fn check_identity(body: &[u8]) -> Result<(), Fault>
     check_fields(identity_in(body))
 }
 
-// The first slot is 0, a later one is above the last.
-#[tactic(auto, using(wire::proofs::Picks::picks), unfolding(image::specs::Reading::slot_wrong))]
-fn slot_wrong(w: Seen, slot: u8) -> bool
-    ensures { result ≡ slot_wrong w.chains w.slot slot }
-{
-    if w.chains == 0 {
-        0 < slot
-    } else {
-        slot <= w.slot
-    }
-}
-
 #[tactic(auto, using(wire::proofs::Picks::picks), unfolding(image::specs::Reading::chain_fault))]
 fn check_chain(w: Seen, body: &[u8]) -> Result<(), Fault>
     ensures { fault_told result ≡ chain_fault w body.now }
@@ -99,7 +87,12 @@ fn check_chain(w: Seen, body: &[u8]) -> Result<(), Fault>
     if SLOT_LIMIT < slot {
         return Err(Fault::WrongField);
     }
-    if slot_wrong(w, slot) {
+    // The first slot is 0, a later one is above the last. As a function of its own this takes a twentieth more of the reader's instructions.
+    if w.chains == 0 {
+        if 0 < slot {
+            return Err(Fault::WrongField);
+        }
+    } else if slot <= w.slot {
         return Err(Fault::WrongField);
     }
     let own = usize::from(wire::get_u16le(body, SLOT_LENGTH + size));

@@ -5,7 +5,7 @@ use Rattle.image_reader.proofs.run_from.Goals as goal
 
 pub loop-at-init : goal.loop-at-init
 loop-at-init c =
-    turn_first _ _ _ _ _ _ _ _ _ (omega arith) (omega arith) (omega arith) _ c.from-left.ensures refl (omega arith) (omega arith) (omega arith) (omega arith) (omega arith)
+    turn_first _ _ _ _ _ _ _ _ _ (omega arith) (omega arith) (omega arith) _ c.from-2.ensures refl (omega arith) (omega arith) (omega arith) (omega arith) (omega arith)
 
 pub loop-at-preserved : goal.loop-at-preserved
 loop-at-preserved c =
