@@ -13,7 +13,7 @@ ghost use Rattle.rules.specs.Reply.{Reply, replied};
 ghost use Rattle.spdm_responder.specs.Words.{no_state, state_in, words_of, words_after, result_of, Fits, read_reply, chip_ok};
 ghost use Rattle.spdm_responder.specs.Calls.{Asked, Signed};
 ghost use Rattle.spdm_responder.specs.ToSign.{part_words, show_reply, shown_prefix, shown_parts, parts_of, Shown};
-ghost use Rattle.spdm_responder.specs.ImageAlgorithms.{algorithms_in, algorithms_reply, algorithms_told, AlgorithmsTold};
+ghost use Rattle.spdm_responder.specs.ImageAlgorithms.{room_reply, told_in, algorithms_reply, algorithms_told, AlgorithmsTold};
 
 use image::Index;
 use rules::limits::{
@@ -244,10 +244,16 @@ pub extern "C" fn spdm_read_image(image: &[u8]) -> u32
     result_of(read(image))
 }
 
-fn algorithms_of(ix: Index) -> [u32; ALGORITHMS_WORDS]
-    ensures { result ≡ algorithms_in ix }
+// Writes what an index tells of its image, where there is room.
+#[tactic(auto, using(wire::proofs::Picks::picks), unfolding(crate::specs::ImageAlgorithms::room_reply, wire::specs::Bytes::splice))]
+fn write_algorithms(ix: Index, algorithms: &mut [u32]) -> Result<usize, HostError>
+    ensures reply { replied result ≡ room_reply (length algorithms.old) }
+    ensures words { algorithms.new ≡ splice algorithms.old 0 (told_in (replied result) ix) }
 {
-    [
+    if algorithms.len() < ALGORITHMS_WORDS {
+        return Err(HostError::ShortAnswer);
+    }
+    algorithms[..ALGORITHMS_WORDS].copy_from_slice(&[
         u32::from(ix.identity.exponent),
         u32::from(ix.identity.hash),
         image::digest_size(ix.identity.hash) as u32,
@@ -255,20 +261,15 @@ fn algorithms_of(ix: Index) -> [u32; ALGORITHMS_WORDS]
         image::signature_size(ix.identity.signature) as u32,
         u32::from(image_lookup::slot_mask(ix)),
         u32::from(ix.measurements),
-    ]
+    ]);
+    Ok(0)
 }
 
-// Writes what an image tells where there is room for it; no length is said.
 fn tell_algorithms(image: &[u8], algorithms: &mut [u32]) -> Result<usize, HostError>
     ensures reply { replied result ≡ algorithms_reply (reading image.now) (length algorithms.old) }
     ensures words { algorithms.new ≡ splice algorithms.old 0 (algorithms_told (reading image.now) (length algorithms.old)) }
 {
-    let index = image_reader::read_image(image)?;
-    if algorithms.len() < ALGORITHMS_WORDS {
-        return Err(HostError::ShortAnswer);
-    }
-    algorithms[..ALGORITHMS_WORDS].copy_from_slice(&algorithms_of(index));
-    Ok(0)
+    write_algorithms(image_reader::read_image(image)?, algorithms)
 }
 
 // What an image says of its algorithms, slots and measurements.
