@@ -1,7 +1,5 @@
-pub mod AlgorithmsLaws
 pub mod Claims
 pub mod Numbers
 pub mod OtherLengths
 pub mod Replies
 pub mod ShownLaws
-pub mod WordLaws

@@ -1,22 +1,23 @@
--- Every reply has room in a word: its number is one of the table's, and its answer is no longer than a message. Assumes nothing.
+-- Every reply has room in a word: its number is one of the table's, and its answer is no longer than a message. And what the reader's
+-- answer makes of the replies on an image. Assumes nothing.
 use Rattle.std.specs.Prelude.{Ok, Err, IsErrAnd, Result as Answer}
 use Rattle.std.proofs.lemmas.Result.{err_from_is_err_and}
-use mathlib.Core.Path.{◌≡◌, refl, sym, ◌∙◌, subst}
-use mathlib.Core.Bool.{Bool}
+use mathlib.Core.Path.{◌≡◌, refl}
+use mathlib.Core.Bool.{Bool, true, false, not}
+use Rattle.wire.specs.Pick.{pick}
 use mathlib.Core.List.{List}
 use Prim.Native.Nat.{ℕ, ◌≤◌}
 use native.Mathlib.Omega.{arith}
 use lib.ListN.{length}
-use borrow.Author.Tests.{ltb-false}
-use Rattle.wire.specs.Bytes.{Bytes, splice}
-use Rattle.wire.proofs.Picks.{pick_case, not_first}
+use Rattle.wire.specs.Bytes.{Bytes}
+use Rattle.wire.proofs.Picks.{pick_case}
 use Rattle.image.specs.Contents.{Contents}
 use Rattle.image.specs.Reading.{Result, number, found, reading}
 use Rattle.image.specs.Fault.{number_of, told}
 use Rattle.image.specs.Index.{answer_of}
 use Rattle.image.specs.declared.Fault.{Fault}
 use Rattle.image.specs.declared.Index.{Index}
-use Rattle.image.proofs.Verdicts.{number_read}
+use Rattle.image.proofs.Verdicts.{known, number_read}
 use Rattle.rules.specs.declared.HostError.{HostError}
 use Rattle.rules.specs.declared.HostError.TheVariants.{Image}
 use Rattle.rules.specs.Limits.{message_limit, wrong_signature}
@@ -32,7 +33,7 @@ use Rattle.rules.specs.Reply.{Reply, replied}
 use Rattle.rules.specs.Reply as reply
 use Rattle.rules.proofs.Told.{FinishTold, finish-told}
 use Rattle.rules.proofs.Ready.{Ready, ready-image}
-use Rattle.spdm_responder.specs.Words.{result_of, Fits, read_reply}
+use Rattle.spdm_responder.specs.Words.{Fits, read_reply}
 use Rattle.spdm_responder.specs.ToSign.{show_reply}
 use Rattle.spdm_responder.specs.ImageAlgorithms.{room_reply, algorithms_reply}
 use Rattle.spdm_responder.proofs.ShownLaws.{prefix-long}
@@ -117,23 +118,28 @@ algorithms_fits b room = by (reading b) (few-read b)
     by (number k) h = omega arith
     by (found c) h = pick_case Fits _ _ _ (λ _. omega arith) (λ _. omega arith)
 
--- so does a reply of the code that comes to one of them
-module _ (a : Answer ℕ HostError) where
-  pub fits-to_sign : (s : State) (prefix parts : ℕ) → replied a ≡ show_reply s prefix parts → Fits (replied a)
-  fits-to_sign s prefix parts e = rw e (shown-fits s prefix parts)
+-- the chip's word as the code tests it
+pub chip-tested : (failed : Bool) → not failed ≡ pick failed false true
+unfolding pick
+chip-tested true = refl
+chip-tested false = refl
 
-  pub fits-read : (b : List ℕ) → replied a ≡ read_reply (reading b) → Fits (replied a)
-  fits-read b e = rw e (read_fits b)
-
-  pub fits-told : (b : List ℕ) (room : ℕ) → replied a ≡ algorithms_reply (reading b) room → Fits (replied a)
-  fits-told b room e = rw e (algorithms_fits b room)
-
-pub ruleset fits = (fits-to_sign, fits-read, fits-told)
+-- for the exports
+pub ruleset fits = (asked-fits, signed_fits, few-read, read_fits, shown-fits, algorithms_fits, chip-tested)
 
 -- a refused image reads as its number, and the reply that ? makes of the fault says it
-module _ (b : List ℕ) (f : Fault) (e : told {A = Index} (Err f) ≡ answer_of (reading b)) (r : Answer ℕ HostError) (i : IsErrAnd r (λ x. x ≡ Image f)) where
+module _ (b : List ℕ) (f : Fault) (e : told {A = Index} (Err f) ≡ answer_of (reading b)) where
   pub refused-reads : reading b ≡ number (number_of f)
   refused-reads = number_read b e f refl
 
-  pub refused-says : replied r ≡ reply.Number (number_of f)
-  refused-says = let w = err_from_is_err_and r i in rw (w.1, w.2)
+  pub refused-says : (r : Answer ℕ HostError) → IsErrAnd r (λ x. x ≡ Image f) → replied r ≡ reply.Number (number_of f)
+  refused-says r i = let w = err_from_is_err_and r i in rw (w.1, w.2)
+
+  pub refused-reply : (r : Answer ℕ HostError) → IsErrAnd r (λ x. x ≡ Image f) → replied r ≡ read_reply (reading b)
+  refused-reply r i = rw (refused-reads, refused-says r i)
+
+-- an accepted one has no number
+pub accepted-reply : (b : List ℕ) (ix : Index) → told {A = Index} (Ok ix) ≡ answer_of (reading b) → reply.Answer 0 ≡ read_reply (reading b)
+accepted-reply b ix e = rw (known b e ix refl).same.read
+
+pub ruleset reads = (refused-reply, accepted-reply)

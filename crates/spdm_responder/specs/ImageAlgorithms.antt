@@ -51,7 +51,7 @@ pub record AlgorithmsTold (x : Result Contents) (out out' : List ℕ) (r : ℕ) 
   pub result : r ≡ result_of (algorithms_reply x (length out))
   pub words : out' ≡ splice out 0 (algorithms_told x (length out))
 
--- The words by the reader's index, which is the code's view of the same; no promise of a public function rests on it.
+-- The code's view of the same, by the reader's index; no promise of a public function rests on it.
 abbrev pub algorithms_in : Index → List ℕ
 algorithms_in ix =
     ix.identity.exponent
@@ -60,3 +60,7 @@ algorithms_in ix =
     ∷ mask_at ix
     ∷ ix.measurements
     ∷ []
+
+abbrev pub told_in : Reply → Index → List ℕ
+told_in (reply.Number n) ix = []
+told_in (reply.Answer n) ix = algorithms_in ix

@@ -13,7 +13,7 @@ ghost use Rattle.rules.specs.Reply.{Reply, replied};
 ghost use Rattle.spdm_responder.specs.Words.{no_state, state_in, words_of, words_after, result_of, Fits, read_reply, chip_ok};
 ghost use Rattle.spdm_responder.specs.Calls.{Asked, Signed};
 ghost use Rattle.spdm_responder.specs.ToSign.{part_words, show_reply, shown_prefix, shown_parts, parts_of, Shown};
-ghost use Rattle.spdm_responder.specs.ImageAlgorithms.{algorithms_in, algorithms_reply, algorithms_told, AlgorithmsTold};
+ghost use Rattle.spdm_responder.specs.ImageAlgorithms.{room_reply, told_in, algorithms_reply, algorithms_told, AlgorithmsTold};
 
 use image::Index;
 use rules::limits::{
@@ -48,7 +48,7 @@ fn no_state() -> State
     }
 }
 
-// The state that the words hold. They stay words, as C lends them: which of them make a state is number 14's test, in state.
+// The state that the words hold. Its fields stay words, as C lends them: any may come, and number 14 tells of those that make no state.
 #[tactic(auto, using(wire::proofs::Picks::picks), unfolding(crate::specs::Words::state_in))]
 fn state_in(words: &[u32]) -> State
     ensures { result ≡ state_in words.now }
@@ -107,6 +107,7 @@ fn result_of(reply: Result<usize, HostError>) -> u32
 
 // Answers one request.
 #[unsafe(no_mangle)]
+#[tactic(auto, using(crate::proofs::Replies::fits))]
 pub extern "C" fn spdm_respond(
     image: &[u8],
     state: &mut [u32],
@@ -130,6 +131,7 @@ pub extern "C" fn spdm_respond(
 
 // Finishes the awaited answer: chip is 0 where the chip failed, and the signature is not looked at then.
 #[unsafe(no_mangle)]
+#[tactic(auto, using(crate::proofs::Replies::fits))]
 pub extern "C" fn spdm_finish(
     image: &[u8],
     state: &mut [u32],
@@ -182,21 +184,17 @@ fn write_parts(s: State, parts: &mut [u32])
     requires { part_words ≤ length parts.old }
     ensures { parts.new ≡ splice parts.old 0 (parts_of s) }
 {
-    let u = s.used;
-    match s.awaited.whose {
-        AWAITS_CHALLENGE => {
-            parts[..PART_WORDS].copy_from_slice(&[A_START as u32, u.a, B_START as u32, u.b]);
-        }
-        AWAITS_MEASUREMENTS => {
-            let a = used_before_m(s);
-            parts[..PART_WORDS].copy_from_slice(&[A_START as u32, a, M_START as u32, u.m]);
-        }
-        _ => {}
-    }
+    let Used { a, b, m } = s.used;
+    let words = match s.awaited.whose {
+        AWAITS_CHALLENGE => [A_START as u32, a, B_START as u32, b],
+        AWAITS_MEASUREMENTS => [A_START as u32, used_before_m(s), M_START as u32, m],
+        _ => return,
+    };
+    parts[..PART_WORDS].copy_from_slice(&words);
 }
 
-// What to hash and sign is written, or the number that comes first; the prefix's length.
-#[tactic(auto, using(crate::proofs::WordLaws::stores), unfolding(crate::specs::ToSign::show_reply))]
+// Writes what to hash and sign, and says the prefix's length.
+#[tactic(auto, using(wire::proofs::Picks::picks), unfolding(crate::specs::ToSign::show_reply, wire::specs::Bytes::splice))]
 fn show_to_sign(s: State, prefix: &mut [u8], parts: &mut [u32]) -> Result<usize, HostError>
     ensures reply { replied result ≡ show_reply s (length prefix.old) (length parts.old) }
     ensures prefix { prefix.new ≡ splice prefix.old 0 (shown_prefix (replied result) s) }
@@ -228,6 +226,8 @@ pub extern "C" fn spdm_to_sign(state: &[u32], prefix: &mut [u8], parts: &mut [u3
     result_of(show_to_sign(state_in(state), prefix, parts))
 }
 
+// An accepted image is said by 0, as an answer of no bytes is.
+#[tactic(auto, using(crate::proofs::Replies::reads))]
 fn read(image: &[u8]) -> Result<usize, HostError>
     ensures { replied result ≡ read_reply (reading image.now) }
 {
@@ -244,10 +244,16 @@ pub extern "C" fn spdm_read_image(image: &[u8]) -> u32
     result_of(read(image))
 }
 
-fn algorithms_of(ix: Index) -> [u32; ALGORITHMS_WORDS]
-    ensures { result ≡ algorithms_in ix }
+// Writes what an index tells of its image, where there is room.
+#[tactic(auto, using(wire::proofs::Picks::picks), unfolding(crate::specs::ImageAlgorithms::room_reply, wire::specs::Bytes::splice))]
+fn write_algorithms(ix: Index, algorithms: &mut [u32]) -> Result<usize, HostError>
+    ensures reply { replied result ≡ room_reply (length algorithms.old) }
+    ensures words { algorithms.new ≡ splice algorithms.old 0 (told_in (replied result) ix) }
 {
-    [
+    if algorithms.len() < ALGORITHMS_WORDS {
+        return Err(HostError::ShortAnswer);
+    }
+    algorithms[..ALGORITHMS_WORDS].copy_from_slice(&[
         u32::from(ix.identity.exponent),
         u32::from(ix.identity.hash),
         image::digest_size(ix.identity.hash) as u32,
@@ -255,19 +261,15 @@ fn algorithms_of(ix: Index) -> [u32; ALGORITHMS_WORDS]
         image::signature_size(ix.identity.signature) as u32,
         u32::from(image_lookup::slot_mask(ix)),
         u32::from(ix.measurements),
-    ]
+    ]);
+    Ok(0)
 }
 
 fn tell_algorithms(image: &[u8], algorithms: &mut [u32]) -> Result<usize, HostError>
     ensures reply { replied result ≡ algorithms_reply (reading image.now) (length algorithms.old) }
     ensures words { algorithms.new ≡ splice algorithms.old 0 (algorithms_told (reading image.now) (length algorithms.old)) }
 {
-    let index = image_reader::read_image(image)?;
-    if algorithms.len() < ALGORITHMS_WORDS {
-        return Err(HostError::ShortAnswer);
-    }
-    algorithms[..ALGORITHMS_WORDS].copy_from_slice(&algorithms_of(index));
-    Ok(0)
+    write_algorithms(image_reader::read_image(image)?, algorithms)
 }
 
 // What an image says of its algorithms, slots and measurements.

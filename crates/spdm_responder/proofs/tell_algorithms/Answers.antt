@@ -1,35 +1,30 @@
--- A refused image says its number. The index of an accepted one says what its contents do, where there is room. Assumes nothing.
-use Rattle.std.proofs.Common.{refl, ◌∙◌, arith}
-use borrow.Author.Tests.{lt-ltb, le-ltb}
-use Rattle.wire.specs.Pick.{pick}
-use Rattle.wire.specs.Bytes.{splice}
+-- A refused image says its number, and the index of an accepted one says what its contents do. Assumes nothing.
+use Rattle.std.proofs.Common.{◌≡◌, List, ℕ, refl, ap, ◌∙◌}
+use Rattle.wire.specs.Bytes.{Bytes, splice}
+use Rattle.image.specs.Contents.{Contents}
+use Rattle.image.specs.Read.{ReadAs}
+use Rattle.image.specs.declared.Index.{Index}
+use Rattle.image.proofs.Found.{mask_is}
 use Rattle.image.proofs.Verdicts.{known}
-use Rattle.spdm_responder.specs.ImageAlgorithms.{room_reply}
-use Rattle.spdm_responder.proofs.AlgorithmsLaws.{by_index}
-use Rattle.spdm_responder.proofs.WordLaws.{stored}
+use Rattle.rules.specs.Reply.{Reply}
+use Rattle.rules.specs.Reply as reply
+use Rattle.spdm_responder.specs.ImageAlgorithms.{told_by, told_in}
 use Rattle.spdm_responder.proofs.Replies.{refused-reads, refused-says}
 use Rattle.spdm_responder.proofs.tell_algorithms.Goals as goal
 
-pub returns-in_err-index : goal.returns-in_err-index
-unfolding splice
-returns-in_err-index c =
-    let f = c.in_err-index in
-    rw (refused-reads _ _ f.ensures _ c.from_residual.ensures.1)
-    (record { reply = refused-says _ _ f.ensures _ c.from_residual.ensures.1; words = refl })
+by_index : {b : List ℕ} → Bytes b → {ix : Index} {c : Contents} → ReadAs b ix c → (y : Reply) → told_in y ix ≡ told_by y c
+by_index y r (reply.Number n) = refl
+by_index y r (reply.Answer n) = rw (mask_is y r, r.indexed)
 
-pub returns-then-algorithms-lt-ALGORITHMS_WORDS : goal.returns-then-algorithms-lt-ALGORITHMS_WORDS
-unfolding room_reply pick splice
-returns-then-algorithms-lt-ALGORITHMS_WORDS c =
-    rw ((known c.args.image.now c.read_image.ensures _ c.in_ok-index.was).same.read, lt-ltb _ _ c.if-algorithms-lt-ALGORITHMS_WORDS.true)
-    (record { reply = refl; words = refl })
+pub returns-in_err-read_image : goal.returns-in_err-read_image
+unfolding splice
+returns-in_err-read_image c =
+    let f = c.in_err-read_image in
+    rw (refused-reads _ _ f.ensures) (record { reply = refused-says _ _ f.ensures _ c.from_residual.ensures.1; words = refl })
 
 pub returns : goal.returns
-unfolding room_reply pick
 returns c =
-    let k = known c.args.image.now c.read_image.ensures _ c.in_ok-index.was in
-    let room = c.if-algorithms-lt-ALGORITHMS_WORDS.false in
-    rw (k.same.read, le-ltb _ _ room)
-    (record {
-      reply = refl;
-      words = stored _ _ _ 7 (c.copy_from_slice.ensures.after ∙ c.algorithms_of.ensures ∙ by_index (λ i. (c.type_inv.image i).fits) k.same) (rw (c.copy_from_slice.ensures.after, c.algorithms_of.ensures)) room;
-    })
+    let k = known c.args.image.now c.read_image.ensures _ c.in_ok-read_image.was in
+    let e = by_index (λ i. (c.type_inv.image i).fits) k.same in
+    let w = c.write_algorithms.ensures in
+    rw k.same.read (record { reply = w.reply; words = w.words ∙ ap (splice _ 0) (e _ ∙ ap (λ y. told_by y k.held) w.reply) })
