@@ -14,7 +14,8 @@ use limits::{
     WRONG_LENGTH, WRONG_OWN_LENGTH, WRONG_SIZE, WRONG_VERSION,
 };
 
-// Narrow entries: a table that is indexed stands on the stack, and is written there at each call.
+// Narrow entries: a table that is indexed stands on the stack, and is written there at each call. The two are of two widths, so one
+// function over both would be no plainer than the two below.
 const DIGEST_SIZES: [u8; 6] = [32, 48, 64, 32, 48, 64];
 
 const SIGNATURE_SIZES: [u16; 9] = [256, 256, 384, 384, 64, 512, 512, 96, 132];
@@ -39,7 +40,7 @@ pub fn signature_size(signature: u8) -> usize
         .map_or(0, |&size| usize::from(size))
 }
 
-// The number of a slot, 0 to 7: made only after its test.
+// The number of a slot, 0 to 7: made only after its test. It and a measurement's index are two kinds of number, so two types.
 #[derive(Clone, Copy)]
 pub struct SlotNumber(u8);
 
@@ -90,7 +91,8 @@ impl From<MeasurementIndex> for u8 {
     }
 }
 
-// What the identity record holds: CTExponent, and the bit numbers of BaseHashAlgo and BaseAsymAlgo.
+// What the identity record holds: CTExponent, and the bit numbers of BaseHashAlgo and BaseAsymAlgo. They are bytes, no enums: the tests
+// of the record and the sizes of a digest and a signature promise their answers of any.
 #[derive(Clone, Copy)]
 pub struct Identity {
     pub exponent: u8,
@@ -99,7 +101,8 @@ pub struct Identity {
 }
 
 // What is kept of an accepted image: its identity, how many chains and measurements it has, where the record of each
-// slot's chain has its body (0: not filled), and where the first measurement has its body.
+// slot's chain has its body (0: not filled), and where the first measurement has its body. No Option: it would be twice as large, and an
+// index is handed on by value; the lookups promise their answers of any place.
 #[derive(Clone, Copy)]
 pub struct Index {
     pub identity: Identity,

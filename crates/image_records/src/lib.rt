@@ -202,7 +202,8 @@ fn seen_after(w: Seen, kind: u8, body: &[u8]) -> Seen
     }
 }
 
-// A record behind the identity, held against those before it: what is seen past it, or its fault.
+// A record behind the identity, held against those before it: what is seen past it, or its fault. Its kind is a byte, as any may stand in
+// an image, and an unknown one is a fault like the others, at its turn.
 #[tactic(auto, using(wire::proofs::Picks::picks), unfolding(crate::specs::Records::held_of, image::specs::Reading::unless))]
 pub fn hold(w: Seen, kind: u8, body: &[u8]) -> Result<Seen, Fault>
     ensures { told result ≡ held_of w kind body.now }

@@ -48,6 +48,7 @@ impl From<Fault> for WriteError {
     }
 }
 
+// A record as it is lent: its kind is any byte, and an unknown one is refused at its turn.
 #[derive(Clone, Copy)]
 pub struct Record<'a> {
     pub kind: u8,
