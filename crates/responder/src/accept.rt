@@ -13,16 +13,17 @@ use rules::limits::{A_START, AWAITS_NOTHING, B_START, M_START};
 use rules::{Accepted, Awaited, Exchange, Message, Outcome, Part, State, Used};
 
 // What an accepted request keeps of the parts: a GET_VERSION nothing, a GET_MEASUREMENTS not B, any other not M.
+#[tactic(auto, unfolding(wire::specs::Pick::pick))]
 fn kept(m: Message, u: Used) -> Used
     ensures { result ≡ kept_used (kept_by (kind_for m)) u }
 {
     match m {
         Message::Version => Used { a: 0, b: 0, m: 0 },
-        Message::Capabilities => Used { m: 0, ..u },
-        Message::Algorithms => Used { m: 0, ..u },
-        Message::Digests => Used { m: 0, ..u },
-        Message::Certificate { .. } => Used { m: 0, ..u },
-        Message::Challenge { .. } => Used { m: 0, ..u },
+        Message::Capabilities
+        | Message::Algorithms
+        | Message::Digests
+        | Message::Certificate { .. }
+        | Message::Challenge { .. } => Used { m: 0, ..u },
         Message::Measurements { .. } => Used { b: 0, ..u },
     }
 }

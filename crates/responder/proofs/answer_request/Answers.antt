@@ -50,12 +50,19 @@ module _ (b : List ℕ) (y : Bytes b) (ix : Index) (s : State) (lent : Lent) (r 
   settled : (k : Contents) → ReadAs b ix k → (x : Decision) → d ≡ x → (after : Lent) (o : Outcome) → Done x k after o → Done (decision_by (facts_of k)) k after o
   settled k rd x q after o v = subst (λ (z : Decision). Done z k after o) (sym (by-contents k rd x q)) v
 
+pub invariant_of-source : goal.invariant_of-source
+invariant_of-source c =
+    let a = c.args in
+    let lent : Lent = record { transcript = a.transcript.now; answer = a.answer.now } in
+    let z = off-index a.image.now.bytes.now (a.image.now.octets) a.image.now.index a.s lent a.request.now a.nonce.now _ c.decide.ensures _ _ _ (ap decided c.in-Ok.is) in
+    record { known = ∣ c.requires ∣₁; drawn = z.called.drawn }
+
 pub write_message-requires : goal.write_message-requires
 write_message-requires c =
     let a = c.args in
     let lent : Lent = record { transcript = a.transcript.now; answer = a.answer.now } in
     let z = off-index a.image.now.bytes.now (a.image.now.octets) a.image.now.index a.s lent a.request.now a.nonce.now _ c.decide.ensures _ _ _ (ap decided c.in-Ok.is) in
-    (c.requires, (z.called.drawn, z.told.fields))
+    z.told.fields
 
 pub accept-requires : goal.accept-requires
 accept-requires c =

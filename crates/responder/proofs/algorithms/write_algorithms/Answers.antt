@@ -5,25 +5,32 @@ use Rattle.rules.specs.Limits.{algorithms_code, algorithms_length}
 use Rattle.rules.specs.Header.{version_of}
 use Rattle.rules.specs.Algorithms.{algorithms_bytes}
 use Rattle.responder.specs.Bits.{bits_bytes}
+use Rattle.responder.proofs.KnownLaws.{hash-known, signature-known}
 use Rattle.responder.proofs.RunLaws.{splice-on}
 use Rattle.responder.proofs.algorithms.write_algorithms.Goals as goal
 
+pub write_bits-requires : goal.write_bits-requires
+write_bits-requires c =
+    let i = c.args.source.now.image in
+    (hash-known i.octets c.args.source.now.known, (signature-known i.octets c.args.source.now.known, c.requires))
+
 pub returns : goal.returns
 unfolding algorithms_bytes
-returns c = λ k e.
+returns c = λ k r.
     let a = c.args in
     let l = a.answer.now in
-    let x₁ : List ℕ = version_of a.n ∷ algorithms_code ∷ 0 ∷ 0 ∷ [] in
+    let n = a.source.now.negotiated in
+    let x₁ : List ℕ = version_of n ∷ algorithms_code ∷ 0 ∷ 0 ∷ [] in
     let x₂ : List ℕ = x₁ ++ le_bytes 2 algorithms_length in
-    let x₃ : List ℕ = x₂ ++ (a.n.selection ∷ 0 ∷ []) in
+    let x₃ : List ℕ = x₂ ++ (n.selection ∷ 0 ∷ []) in
     c.write_bits.ensures
     ∙ rw (
       c.copy_into-2.ensures,
       c.put_le.ensures,
       c.copy_into.ensures,
       c.version_of.ensures,
-      e,
+      r.indexed,
       splice-on l x₁ (le_bytes 2 algorithms_length) 4 refl,
-      splice-on l x₂ (a.n.selection ∷ 0 ∷ []) 6 refl,
+      splice-on l x₂ (n.selection ∷ 0 ∷ []) 6 refl,
     )
-    (splice-on l x₃ (bits_bytes k.identity a.n.selection) 8 refl)
+    (splice-on l x₃ (bits_bytes k.identity n.selection) 8 refl)

@@ -13,8 +13,9 @@ pub returns : goal.returns
 unfolding certificate_bytes
 returns c = λ k r.
     let a = c.args in
-    let y : Bytes a.image.now.bytes.now = c.args.image.now.octets in
-    let h : List ℕ = version_of a.n ∷ certificate_code ∷ a.slot.0 ∷ 0 ∷ [] in
+    let s = a.source.now in
+    let y : Bytes s.image.bytes.now = s.image.octets in
+    let h : List ℕ = version_of s.negotiated ∷ certificate_code ∷ a.slot.0 ∷ 0 ∷ [] in
     let portion : List ℕ = le_bytes 2 a.portion in
     let remainder : List ℕ = le_bytes 2 a.remainder in
     let bytes : List ℕ = part (slot_chain k a.slot.0) a.offset a.portion in
@@ -26,7 +27,7 @@ returns c = λ k r.
       c.put_le.ensures,
       c.copy_into.ensures,
       c.from.ensures,
-      c.version_of.ensures,
+      c.version_of-version.ensures,
       splice-on a.answer.now h portion 4 refl,
       splice-on a.answer.now (h ++ portion) remainder 6 refl,
     )

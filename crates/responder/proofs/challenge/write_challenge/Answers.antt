@@ -13,13 +13,14 @@ use Rattle.responder.proofs.challenge.write_challenge.Goals as goal
 pub overflow_add-at-4 : goal.overflow_add-at-4
 overflow_add-at-4 c =
     let a = c.args in
-    omega (arith, ap length c.digest-digest.ensures, digest-short a.image.now.bytes.now a.image.now.index a.slot.0)
+    omega (arith, ap length c.digest-digest.ensures, digest-short a.source.now.image.bytes.now a.source.now.image.index a.slot.0)
 
 pub returns : goal.returns
 unfolding challenge_bytes
 returns c = λ k r.
     let a = c.args in
-    let y : Bytes a.image.now.bytes.now = c.args.image.now.octets in
+    let s = a.source.now in
+    let y : Bytes s.image.bytes.now = s.image.octets in
     c.put_le.ensures
     ∙ rw (
       c.copy_into-4.ensures,
@@ -36,5 +37,5 @@ returns c = λ k r.
       tcb_is y r,
       full_is y r,
     )
-    (challenge-run a.answer.now (version_of a.n ∷ challenge_code ∷ a.slot.0 ∷ slot_mask k ∷ []) (slot_digest k a.slot.0) a.nonce.now
-    (summary_of k a.x) (0 ∷ 0 ∷ []) refl c.requires.1)
+    (challenge-run a.answer.now (version_of s.negotiated ∷ challenge_code ∷ a.slot.0 ∷ slot_mask k ∷ []) (slot_digest k a.slot.0) s.nonce.now
+    (summary_of k a.x) (0 ∷ 0 ∷ []) refl s.drawn)

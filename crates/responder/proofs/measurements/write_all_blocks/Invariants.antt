@@ -10,4 +10,4 @@ use Rattle.responder.proofs.measurements.write_all_blocks.Given as goal
 abbrev pub invariant-loop-k : goal.invariant-loop-k
 invariant-loop-k l =
     (d : Contents) → ReadAs l.image.bytes.now l.image.index d
-    → l.answer ≡ splice l.initial.answer l.at (blocks_of (digest_size d.identity.hash) (take l.k d.measurements))
+    → l.answer ≡ splice l.initial.answer 8 (blocks_of (digest_size d.identity.hash) (take l.k d.measurements))
