@@ -5,6 +5,6 @@ use Rattle.image.specs.Contents.{Contents}
 use Rattle.image.specs.Read.{ReadAs}
 use Rattle.responder.specs.declared.source.Source.{Source}
 
--- the bytes stand at the start of the answer, whatever contents the image reads as
-abbrev pub Written : Source → List ℕ → List ℕ → (Contents → List ℕ) → Type 0
-Written s before after bytes = (c : Contents) → ReadAs s.image.bytes.now s.image.index c → after ≡ splice before 0 (bytes c)
+-- bytes were written to a place, those of whatever contents the image reads as
+abbrev pub Written : Source → List ℕ → List ℕ → ℕ → (Contents → List ℕ) → Type 0
+Written s before after at bytes = (c : Contents) → ReadAs s.image.bytes.now s.image.index c → after ≡ splice before at (bytes c)

@@ -62,7 +62,7 @@ fn write_bits(answer: &mut [u8], id: Identity, selection: u32)
 
 pub(crate) fn write_algorithms(answer: &mut [u8], source: &Source)
     requires { source.now.negotiated.selection ≤ 1 }
-    ensures { Written source.now answer.old answer.new (λ c. algorithms_bytes c source.now.negotiated) }
+    ensures { Written source.now answer.old answer.new 0 (λ c. algorithms_bytes c source.now.negotiated) }
 {
     let n = source.negotiated;
     wire::copy_into(answer, 0, &[state::version_of(n), ALGORITHMS_CODE, 0, 0]);

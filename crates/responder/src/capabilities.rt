@@ -23,7 +23,7 @@ fn flags(ix: Index) -> u8
 }
 
 pub(crate) fn write_capabilities(answer: &mut [u8], source: &Source)
-    ensures { Written source.now answer.old answer.new (λ c. capabilities_bytes c source.now.negotiated) }
+    ensures { Written source.now answer.old answer.new 0 (λ c. capabilities_bytes c source.now.negotiated) }
 {
     let index = source.image.index;
     let version = state::version_of(source.negotiated);

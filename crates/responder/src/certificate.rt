@@ -14,7 +14,7 @@ pub(crate) fn write_certificate(
     portion: usize,
     remainder: usize,
 )
-    ensures { Written source.now answer.old answer.new
+    ensures { Written source.now answer.old answer.new 0
         (λ c. certificate_bytes c source.now.negotiated slot.0 offset portion remainder) }
 {
     let version = state::version_of(source.negotiated);

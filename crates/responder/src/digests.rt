@@ -27,7 +27,7 @@ fn write_digest(answer: &mut [u8], at: usize, image: &Image, slot: u8) -> usize
 }
 
 pub(crate) fn write_digests(answer: &mut [u8], source: &Source)
-    ensures { Written source.now answer.old answer.new (λ c. digests_bytes c source.now.negotiated) }
+    ensures { Written source.now answer.old answer.new 0 (λ c. digests_bytes c source.now.negotiated) }
 {
     let version = state::version_of(source.negotiated);
     let mask = image_lookup::slot_mask(source.image.index);

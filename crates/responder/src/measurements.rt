@@ -2,12 +2,11 @@
 ghost use Rattle.std.specs.Prelude.{◌≡◌, ◌+◌, ◌≤◌, length, true};
 ghost use Rattle.wire.specs.Bytes.{splice};
 ghost use Rattle.image.specs.Contents.{Contents};
-ghost use Rattle.rules.specs.Facts.{facts_at};
+ghost use Rattle.decision.specs.ImageFacts.{facts_in};
 ghost use Rattle.rules.specs.Limits.{message_limit};
 ghost use Rattle.rules.specs.Measurements.{operation_fits, block_bytes, blocks_of, record_of, count_shown, slot_shown, measurements_bytes};
 ghost use Rattle.image.specs.Sizes.{digest_size, digest_most};
 ghost use Rattle.image.specs.Index.{index_of};
-ghost use Rattle.image.specs.Read.{ReadAs};
 ghost use Rattle.responder.specs.Written.{Written};
 
 use crate::source::Source;
@@ -21,7 +20,7 @@ const RECORD_LENGTH_AT: usize = 5;
 
 const RECORD_AT: usize = 8;
 
-// A block's head is its index, what it is measured by, and its size, and then the value's own head: the digest's type and size.
+// A block's head is its index, the measurement specification and its size, and behind them the value's own: its type and size.
 const BLOCK_HEAD: usize = 4 + VALUE_HEAD;
 
 const VALUE_HEAD: usize = 3;
@@ -38,8 +37,7 @@ fn write_block(answer: &mut [u8], at: usize, h: usize, body: &[u8])
 }
 
 fn write_all_blocks(answer: &mut [u8], source: &Source)
-    ensures { (c : Contents) → ReadAs source.now.image.bytes.now source.now.image.index c →
-        answer.new ≡ splice answer.old 8 (blocks_of (digest_size c.identity.hash) c.measurements) }
+    ensures { Written source.now answer.old answer.new 8 (λ c. blocks_of (digest_size c.identity.hash) c.measurements) }
 {
     let image = source.image;
     let h = image::digest_size(image.index.identity.hash);
@@ -50,9 +48,8 @@ fn write_all_blocks(answer: &mut [u8], source: &Source)
 }
 
 fn write_record(answer: &mut [u8], source: &Source, o: Operation)
-    requires { operation_fits (facts_at source.now.image.bytes.now source.now.image.index) o ≡ true }
-    ensures { (c : Contents) → ReadAs source.now.image.bytes.now source.now.image.index c →
-        answer.new ≡ splice answer.old 8 (record_of c o) }
+    requires { operation_fits (facts_in source.now.image) o ≡ true }
+    ensures { Written source.now answer.old answer.new 8 (λ c. record_of c o) }
 {
     match o {
         Operation::Count => {}
@@ -87,8 +84,8 @@ pub(crate) fn write_measurements(
     o: Operation,
     signer: Option<SlotNumber>,
 )
-    requires { operation_fits (facts_at source.now.image.bytes.now source.now.image.index) o ≡ true }
-    ensures { Written source.now answer.old answer.new
+    requires { operation_fits (facts_in source.now.image) o ≡ true }
+    ensures { Written source.now answer.old answer.new 0
         (λ c. measurements_bytes c source.now.nonce.now source.now.negotiated o signer) }
 {
     let index = source.image.index;

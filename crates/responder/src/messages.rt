@@ -1,5 +1,5 @@
 // The answers: one writer a message. Each leaves its signature off.
-ghost use Rattle.rules.specs.Facts.{facts_at};
+ghost use Rattle.decision.specs.ImageFacts.{facts_in};
 ghost use Rattle.rules.specs.Messages.{message_bytes};
 ghost use Rattle.rules.proofs.Told.{Fields};
 ghost use Rattle.responder.specs.Written.{Written};
@@ -15,8 +15,8 @@ use crate::version::write_version;
 use rules::Message;
 
 pub(crate) fn write_message(answer: &mut [u8], source: &Source, m: Message)
-    requires { Fields (facts_at source.now.image.bytes.now source.now.image.index) source.now.negotiated m }
-    ensures { Written source.now answer.old answer.new
+    requires { Fields (facts_in source.now.image) source.now.negotiated m }
+    ensures { Written source.now answer.old answer.new 0
         (λ c. message_bytes c source.now.nonce.now source.now.negotiated m) }
 {
     match m {
