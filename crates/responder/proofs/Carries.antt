@@ -120,3 +120,5 @@ module _ (c : Contents) (v : Valid c) (s : State) (r nonce : List ℕ) (m : Mess
         transcript = k.transcript ∙ ap (λ (y : List ℕ). splice before.transcript (place_for x.part (kept_by (kind_for m)) s.used) (take x.layout r ++ y)) told;
         answer = a;
       }
+
+pub ruleset carries = (few, kept_count)

@@ -39,6 +39,7 @@ fn place_of(p: Part, u: Used) -> usize
     }
 }
 
+#[tactic(auto, unfolding(wire::specs::Pick::pick))]
 fn add_to(p: Part, u: Used, n: usize) -> Used
     requires { count_of p u + n ≤ limit_of p }
     ensures { result ≡ added_to p n u }
@@ -75,6 +76,7 @@ fn awaited_by(x: Exchange) -> Awaited
 }
 
 // A request's layout and its answer, one behind the other.
+#[tactic(auto, using(crate::proofs::RunLaws::runs))]
 fn append(t: &mut [u8], at: usize, request: &[u8], layout: usize, answer: &[u8], n: usize)
     requires { (layout ≤ length request.now) × (at ≤ transcript_length) }
     ensures { t.new
@@ -84,6 +86,7 @@ fn append(t: &mut [u8], at: usize, request: &[u8], layout: usize, answer: &[u8],
     wire::copy_into(t, at + layout, wire::part_of(answer, 0, n));
 }
 
+#[tactic(auto, using(crate::proofs::Carries::carries))]
 pub(crate) fn accept(
     s: State,
     accepted: Accepted,

@@ -22,6 +22,7 @@ fn flags(ix: Index) -> u8
     MEASURING_FLAGS
 }
 
+#[tactic(auto, using(wire::proofs::Picks::picks, crate::proofs::RunLaws::runs), unfolding(rules::specs::Capabilities::capabilities_bytes, wire::specs::Pick::pick))]
 pub(crate) fn write_capabilities(answer: &mut [u8], source: &Source)
     ensures { Written source.now answer.old answer.new 0 (λ c. capabilities_bytes c source.now.negotiated) }
 {

@@ -6,6 +6,7 @@ use crate::source::Source;
 use image::SlotNumber;
 use rules::limits::{CERTIFICATE_CODE, CERTIFICATE_HEAD, HEADER_LENGTH};
 
+#[tactic(auto, using(crate::proofs::KnownLaws::contents), unfolding(rules::specs::Certificate::certificate_bytes))]
 pub(crate) fn write_certificate(
     answer: &mut [u8],
     source: &Source,

@@ -27,6 +27,7 @@ fn summary_asked<'a>(image: &Image<'a>, x: u8) -> &'a [u8]
     image.full_summary()
 }
 
+#[tactic(auto, using(crate::proofs::KnownLaws::contents), unfolding(rules::specs::Challenge::challenge_bytes))]
 pub(crate) fn write_challenge(answer: &mut [u8], source: &Source, slot: SlotNumber, x: u8)
     ensures { Written source.now answer.old answer.new 0
         (λ c. challenge_bytes c source.now.nonce.now source.now.negotiated slot.0 x) }

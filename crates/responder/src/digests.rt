@@ -13,6 +13,7 @@ use image_lookup::Image;
 use rules::limits::{DIGESTS_CODE, HEADER_LENGTH};
 
 // The digest of a slot behind what stands there, none where the slot is not filled; the place behind it.
+#[tactic(auto, using(crate::proofs::KnownLaws::slots), unfolding(wire::specs::Bytes::splice))]
 fn write_digest(answer: &mut [u8], at: usize, image: &Image, slot: u8) -> usize
     requires { at ≤ message_limit }
     ensures { (answer.new ≡ splice answer.old at (digest_at image.now.bytes.now image.now.index slot))
@@ -26,6 +27,7 @@ fn write_digest(answer: &mut [u8], at: usize, image: &Image, slot: u8) -> usize
     at + digest.len()
 }
 
+#[tactic(auto, using(crate::proofs::KnownLaws::joining), unfolding(rules::specs::Digests::digests_bytes))]
 pub(crate) fn write_digests(answer: &mut [u8], source: &Source)
     ensures { Written source.now answer.old answer.new 0 (λ c. digests_bytes c source.now.negotiated) }
 {

@@ -26,6 +26,7 @@ const BLOCK_HEAD: usize = 4 + VALUE_HEAD;
 const VALUE_HEAD: usize = 3;
 
 // A block of a measurement that is given as index, type and digest.
+#[tactic(auto, using(crate::proofs::MeasurementsLaws::blocks))]
 fn write_block(answer: &mut [u8], at: usize, h: usize, body: &[u8])
     requires { (at ≤ message_limit) × ((h ≤ digest_most) × (length body.now ≡ 2 + h)) }
     ensures { answer.new ≡ splice answer.old at (block_bytes h body.now) }
@@ -36,6 +37,7 @@ fn write_block(answer: &mut [u8], at: usize, h: usize, body: &[u8])
     wire::copy_into(answer, at + head.len(), &body[LABEL_LENGTH..]);
 }
 
+#[tactic(auto, using(crate::proofs::KnownLaws::measuring))]
 fn write_all_blocks(answer: &mut [u8], source: &Source)
     ensures { Written source.now answer.old answer.new 8 (λ c. blocks_of (digest_size c.identity.hash) c.measurements) }
 {
@@ -47,6 +49,7 @@ fn write_all_blocks(answer: &mut [u8], source: &Source)
     }
 }
 
+#[tactic(auto, using(crate::proofs::KnownLaws::measuring), unfolding(wire::specs::Bytes::splice))]
 fn write_record(answer: &mut [u8], source: &Source, o: Operation)
     requires { operation_fits (facts_in source.now.image) o ≡ true }
     ensures { Written source.now answer.old answer.new 8 (λ c. record_of c o) }
@@ -78,6 +81,7 @@ fn slot_shown(signer: Option<SlotNumber>) -> u8
     signer.map_or(0, u8::from)
 }
 
+#[tactic(auto, using(crate::proofs::KnownLaws::measuring), unfolding(rules::specs::Measurements::measurements_bytes))]
 pub(crate) fn write_measurements(
     answer: &mut [u8],
     source: &Source,

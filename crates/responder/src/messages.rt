@@ -14,6 +14,7 @@ use crate::source::Source;
 use crate::version::write_version;
 use rules::Message;
 
+#[tactic(auto, unfolding(rules::specs::Messages::message_bytes))]
 pub(crate) fn write_message(answer: &mut [u8], source: &Source, m: Message)
     requires { Fields (facts_in source.now.image) source.now.negotiated m }
     ensures { Written source.now answer.old answer.new 0

@@ -11,6 +11,7 @@ const ENTRIES_AT: usize = 6;
 
 const ENTRY_LENGTH: usize = 2;
 
+#[tactic(auto, using(crate::proofs::RunLaws::runs), unfolding(rules::specs::Version::version_bytes))]
 pub(crate) fn write_version(answer: &mut [u8], n: Negotiated)
     ensures { answer.new ≡ splice answer.old 0 (version_bytes n) }
 {
