@@ -60,6 +60,7 @@ fn write_bits(answer: &mut [u8], id: Identity, selection: u32)
     write_zeros(answer, REST_AT, REST_LENGTH);
 }
 
+#[tactic(auto, using(crate::proofs::AlgorithmLaws::algorithms))]
 pub(crate) fn write_algorithms(answer: &mut [u8], source: &Source)
     requires { source.now.negotiated.selection ≤ 1 }
     ensures { Written source.now answer.old answer.new 0 (λ c. algorithms_bytes c source.now.negotiated) }

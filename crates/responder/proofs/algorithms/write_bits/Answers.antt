@@ -3,9 +3,11 @@ use Rattle.std.proofs.Common.{refl, ◌∙◌, List, ◌++◌, ℕ, ◌+◌, ◌
 use Prim.Native.Nat.{◌^◌}
 use Rattle.wire.specs.Bytes.{le_bytes}
 use Rattle.wire.proofs.Laws.{splice-then}
+use Rattle.responder.specs.Bits.{bits_bytes}
 use Rattle.responder.proofs.algorithms.write_bits.Goals as goal
 
 pub returns : goal.returns
+unfolding bits_bytes
 returns c =
     let a = c.args in
     let l = a.answer.now in
