@@ -1,5 +1,5 @@
--- What an accepted image gives of its index and its bytes, whatever contents it has: facts with one proof at most, so the truncated one
--- gives them. Assumes nothing.
+-- What the writers of the messages need of an image that the reader accepted: of its index and bytes alone, facts with one proof at most, which
+-- the truncated one gives; and that what is looked up is what the contents hold. Each writer's set of them is at the end. Assumes nothing.
 use mathlib.Core.Path.{◌≡◌, ap, ◌∙◌}
 use mathlib.Core.Bool.{true}
 use mathlib.Core.List.{List}
@@ -15,7 +15,7 @@ use Rattle.image.specs.Index.{digest_at, chain_part_at, nth_at, measurement_at}
 use Rattle.image.specs.Limits.{slot_count, measurements_limit, hash_limit, signature_limit}
 use Rattle.image.specs.Contents.{Contents}
 use Rattle.image.specs.Held.{slot_chain}
-use Rattle.image.specs.Sizes.{digest_size, digest_most}
+use Rattle.image.specs.Sizes.{digest_size}
 use Rattle.image.specs.Read.{Known, ReadAs}
 use Rattle.image.specs.declared.Index.{Index}
 use Rattle.image.specs.declared.MeasurementIndex.{MeasurementIndex}
@@ -36,10 +36,6 @@ use Rattle.responder.proofs.DigestLaws.{joined_from, one_more, no_more, joined-a
 module _ {b : List ℕ} {ix : Index} (y : Bytes b) (k : ∥ Known b ix ∥₁) where
   pub few-measurements : ix.measurements ≤ measurements_limit
   few-measurements = ∥∥₁_elim k le_prop (λ x. (known-fine y x).measurements)
-
-  -- so many blocks have at most 32 times 71 bytes
-  pub few-blocks : (n h : ℕ) → n ≤ ix.measurements → h ≤ digest_most → n * (7 + h) ≤ 2272
-  few-blocks n h p q = blocks_few n h (omega (arith, few-measurements)) q
 
   pub few-asked : (o : Operation) → block_count ix.measurements o ≤ measurements_limit
   few-asked o = few_blocks ix.measurements o few-measurements
@@ -95,7 +91,7 @@ module _ {b : List ℕ} {ix : Index} {c : Contents} (y : Bytes b) (r : ReadAs b 
 
 pub ruleset contents = (runs, identity_is, portion_is, digest_is, mask_is, tcb_is, full_is, digest-short, hash-known, signature-known)
 
-pub ruleset measuring = (contents, blocks_few, few-blocks, few-asked, record_is, count_is, size_is, one_is, nth_is, nth-body, one-body, no_blocks, block_more, blocks_all)
+pub ruleset measuring = (contents, blocks_few, few-measurements, few-asked, record_is, count_is, size_is, one_is, nth-body, one-body, no_blocks, block_more, blocks_all)
 
 pub ruleset joining = (contents, one_more, no_more, joined_is)
 

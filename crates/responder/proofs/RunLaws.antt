@@ -16,4 +16,4 @@ splice-on l xs ys n e = rw zero-add at (splice-then l 0 xs ys n e)
 pub splice-from : (l xs ys : List ℕ) (i n : ℕ) → n ≡ i + length xs → splice (splice l i xs) n ys ≡ splice l i (xs ++ ys)
 splice-from l xs ys i n e = rw e (splice-append l i xs ys)
 
-pub ruleset runs = (splice-on, splice-from, length-take-le)
+pub ruleset runs = (splice-from, length-take-le)
