@@ -4,7 +4,7 @@ use mathlib.Core.Path.{◌≡◌, ap, ◌∙◌}
 use mathlib.Core.Bool.{true}
 use mathlib.Core.List.{List}
 use mathlib.Core.Logic.{∥∥₁_elim}
-use Prim.Native.Nat.{ℕ, ◌+◌, ◌*◌, ◌≤◌, ◌<◌}
+use Prim.Native.Nat.{ℕ, ◌+◌, ◌-◌, ◌*◌, ◌≤◌, ◌<◌}
 use native.Mathlib.Omega.{arith}
 use native.Mathlib.Bridge.{le_prop}
 use base.Stored.{Coded-set, coded_ℕ}
@@ -14,13 +14,14 @@ use Rattle.wire.specs.Bytes.{Bytes, part, splice}
 use Rattle.image.specs.Index.{digest_at, chain_part_at, nth_at, measurement_at}
 use Rattle.image.specs.Limits.{slot_count, measurements_limit, hash_limit, signature_limit}
 use Rattle.image.specs.Contents.{Contents}
-use Rattle.image.specs.Held.{slot_chain}
+use Rattle.image.specs.Held.{slot_chain, nth_measurement}
 use Rattle.image.specs.Sizes.{digest_size}
 use Rattle.image.specs.Read.{Known, ReadAs}
 use Rattle.image.specs.declared.Index.{Index}
 use Rattle.image.specs.declared.MeasurementIndex.{MeasurementIndex}
 use Rattle.image.proofs.Given.{valid, held, known-fine}
 use Rattle.image.proofs.Found.{size_is, count_is, nth_is, one_is, digest_is, mask_is, tcb_is, full_is}
+use Rattle.image.proofs.Sizes.{digest-most}
 use Rattle.image.proofs.SlotLaws.{digest-short, no-digest, slot_in}
 use Rattle.rules.specs.Facts.{facts_at}
 use Rattle.rules.specs.Digests.{joined_digests}
@@ -74,11 +75,13 @@ module _ {b : List ℕ} {ix : Index} {c : Contents} (y : Bytes b) (r : ReadAs b 
 
   -- a turn of the loop over the blocks
   pub block_more : (l : List ℕ) (at n k : ℕ) → k < ix.measurements → n ≡ at + k * (7 + digest_size ix.identity.hash)
-      → splice (splice l at (blocks_of (digest_size c.identity.hash) (take k c.measurements))) n (block_bytes (digest_size ix.identity.hash) (nth_at b ix k))
+      → splice (splice l at (blocks_of (digest_size c.identity.hash) (take k c.measurements))) n (block_bytes (length (nth_at b ix k) - 2) (nth_at b ix k))
       ≡ splice l at (blocks_of (digest_size c.identity.hash) (take (k + 1) c.measurements))
   block_more l at n k p e =
       let m : ix.measurements ≡ length c.measurements = count_is r in
-      rw (e, nth_is y r k, size_is r) (block-after l at (digest_size c.identity.hash) c.measurements k (valid y r).measurements (omega arith))
+      let h : length (nth_measurement c k) - 2 ≡ digest_size c.identity.hash =
+      omega (arith, nth-length (digest_size c.identity.hash) c.measurements k (valid y r).measurements (omega arith)) in
+      rw (e, nth_is y r k, size_is r, h) (block-after l at (digest_size c.identity.hash) c.measurements k (valid y r).measurements (omega arith))
 
   pub blocks_all : (k : ℕ) → k ≡ ix.measurements → take k c.measurements ≡ c.measurements
   blocks_all k e = take_all k c.measurements (omega (arith, count_is r))
@@ -91,7 +94,7 @@ module _ {b : List ℕ} {ix : Index} {c : Contents} (y : Bytes b) (r : ReadAs b 
 
 pub ruleset contents = (runs, identity_is, portion_is, digest_is, mask_is, tcb_is, full_is, digest-short, hash-known, signature-known)
 
-pub ruleset measuring = (contents, blocks_few, few-measurements, few-asked, record_is, count_is, size_is, one_is, nth-body, one-body, no_blocks, block_more, blocks_all)
+pub ruleset measuring = (contents, digest-most, blocks_few, few-measurements, few-asked, record_is, count_is, size_is, one_is, nth-body, one-body, no_blocks, block_more, blocks_all)
 
 pub ruleset joining = (contents, one_more, no_more, joined_is)
 

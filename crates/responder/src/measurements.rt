@@ -1,5 +1,5 @@
 // MEASUREMENTS.
-ghost use Rattle.std.specs.Prelude.{◌≡◌, ◌+◌, ◌≤◌, length, true};
+ghost use Rattle.std.specs.Prelude.{◌≡◌, ◌+◌, ◌-◌, ◌≤◌, length, true};
 ghost use Rattle.wire.specs.Bytes.{splice};
 ghost use Rattle.image.specs.Contents.{Contents};
 ghost use Rattle.decision.specs.ImageFacts.{facts_in};
@@ -27,14 +27,16 @@ const VALUE_HEAD: usize = 3;
 
 // A block of a measurement that is given as index, type and digest.
 #[tactic(auto, using(crate::proofs::MeasurementsLaws::blocks))]
-fn write_block(answer: &mut [u8], at: usize, h: usize, body: &[u8])
-    requires { (at ≤ message_limit) × ((h ≤ digest_most) × (length body.now ≡ 2 + h)) }
-    ensures { answer.new ≡ splice answer.old at (block_bytes h body.now) }
+fn write_block(answer: &mut [u8], at: usize, body: &[u8])
+    requires { (at ≤ message_limit) × ((2 ≤ length body.now) × (length body.now ≤ 2 + digest_most)) }
+    ensures { answer.new ≡ splice answer.old at (block_bytes (length body.now - 2) body.now) }
 {
+    let digest = &body[LABEL_LENGTH..];
+    let h = digest.len();
     // H is at most 64: one byte of each size says it
     let head = [body[0], 1, (VALUE_HEAD + h) as u8, 0, body[1], h as u8, 0];
     wire::copy_into(answer, at, &head);
-    wire::copy_into(answer, at + head.len(), &body[LABEL_LENGTH..]);
+    wire::copy_into(answer, at + head.len(), digest);
 }
 
 #[tactic(auto, using(crate::proofs::KnownLaws::measuring))]
@@ -45,7 +47,7 @@ fn write_all_blocks(answer: &mut [u8], source: &Source)
     let h = image::digest_size(image.index.identity.hash);
     for k in 0..usize::from(image.index.measurements) {
         let at = RECORD_AT + k * (BLOCK_HEAD + h);
-        write_block(answer, at, h, image.nth_measurement(k));
+        write_block(answer, at, image.nth_measurement(k));
     }
 }
 
@@ -57,12 +59,7 @@ fn write_record(answer: &mut [u8], source: &Source, o: Operation)
     match o {
         Operation::Count => {}
         Operation::All => write_all_blocks(answer, source),
-        Operation::One(index) => write_block(
-            answer,
-            RECORD_AT,
-            image::digest_size(source.image.index.identity.hash),
-            source.image.measurement(index),
-        ),
+        Operation::One(index) => write_block(answer, RECORD_AT, source.image.measurement(index)),
     }
 }
 
