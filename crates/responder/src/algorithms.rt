@@ -45,6 +45,7 @@ fn measurement_hash(hash: u8, selection: u32) -> usize
 }
 
 // From MeasurementHashAlgo on: our bits, and the rest.
+#[tactic(auto, using(crate::proofs::AlgorithmLaws::bits))]
 fn write_bits(answer: &mut [u8], id: Identity, selection: u32)
     requires { (id.hash ≤ hash_limit) × ((id.signature ≤ signature_limit) × (selection ≤ 1)) }
     ensures { answer.new ≡ splice answer.old 8 (bits_bytes id selection) }
