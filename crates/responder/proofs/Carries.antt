@@ -54,10 +54,6 @@ kept_count A kept u = refl
 kept_count B kept u = refl
 kept_count M kept u = refl
 
--- counts that agree in every part
-pub same-used : {a b m a' b' m' : ℕ} → a ≡ a' → b ≡ b' → m ≡ m' → ◌≡◌ {A = Used} (record { a = a; b = b; m = m }) (record { a = a'; b = b'; m = m' })
-same-used e f g = rw (e, f, g)
-
 -- no answer ends in more than the longest signature
 signed_few : (f : Facts) (o : Operation) (g : Option SlotNumber) → (measurements_exchange f o g).signature ≤ signature_most
 signed_few f o None = omega arith
@@ -120,3 +116,5 @@ module _ (c : Contents) (v : Valid c) (s : State) (r nonce : List ℕ) (m : Mess
         transcript = k.transcript ∙ ap (λ (y : List ℕ). splice before.transcript (place_for x.part (kept_by (kind_for m)) s.used) (take x.layout r ++ y)) told;
         answer = a;
       }
+
+pub ruleset carries = (few, kept_count)

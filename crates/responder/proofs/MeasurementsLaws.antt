@@ -37,6 +37,11 @@ block_run l at h body few e =
     rw (a, b, c, d, take_all h (drop 2 body) (simp length-drop (omega arith)))
     (splice-then l at (get_or body 0 0 ∷ 1 ∷ (3 + h) ∷ 0 ∷ get_or body 1 0 ∷ h ∷ 0 ∷ []) (drop 2 body) 7 refl)
 
+-- no block
+pub no_blocks : (l : List ℕ) (at h : ℕ) → splice l at (blocks_of h []) ≡ l
+unfolding splice blocks_of
+no_blocks l at h = refl
+
 -- one block more
 next : (h : ℕ) (ms : List Measurement) (k : ℕ) → k < length ms → blocks_of h (take (suc k) ms) ≡ blocks_of h (take k ms) ++ block_bytes h (get_or (map measurement_body ms) k [])
 unfolding blocks_of
@@ -71,3 +76,5 @@ block-after l at h ms k e p =
 pub asked-length : (c : Contents) → Valid c → (i : MeasurementIndex) → operation_fits (facts_of c) (operation.One i) ≡ true → length (measurement_of c i.0) ≡ 2 + digest_size c.identity.hash
 unfolding operation_fits
 asked-length c v i p = present-length c v i.0 (ltb-true _ _ p)
+
+pub ruleset blocks = (block_run)

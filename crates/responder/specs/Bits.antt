@@ -3,6 +3,6 @@ use Rattle.std.specs.Prelude.{List, ◌++◌, ℕ, ◌+◌, ◌*◌, ◌^◌, re
 use Rattle.wire.specs.Bytes.{le_bytes}
 use Rattle.image.specs.declared.Identity.{Identity}
 
-abbrev pub bits_bytes : Identity → ℕ → List ℕ
+unfoldable pub bits_bytes : Identity → ℕ → List ℕ
 bits_bytes id selection =
     le_bytes 4 (selection * 2 ^ (id.hash + 1)) ++ (le_bytes 4 (2 ^ id.signature) ++ (le_bytes 4 (2 ^ id.hash) ++ replicate 16 0))

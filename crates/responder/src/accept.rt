@@ -13,16 +13,17 @@ use rules::limits::{A_START, AWAITS_NOTHING, B_START, M_START};
 use rules::{Accepted, Awaited, Exchange, Message, Outcome, Part, State, Used};
 
 // What an accepted request keeps of the parts: a GET_VERSION nothing, a GET_MEASUREMENTS not B, any other not M.
+#[tactic(auto, unfolding(wire::specs::Pick::pick))]
 fn kept(m: Message, u: Used) -> Used
     ensures { result ≡ kept_used (kept_by (kind_for m)) u }
 {
     match m {
         Message::Version => Used { a: 0, b: 0, m: 0 },
-        Message::Capabilities => Used { m: 0, ..u },
-        Message::Algorithms => Used { m: 0, ..u },
-        Message::Digests => Used { m: 0, ..u },
-        Message::Certificate { .. } => Used { m: 0, ..u },
-        Message::Challenge { .. } => Used { m: 0, ..u },
+        Message::Capabilities
+        | Message::Algorithms
+        | Message::Digests
+        | Message::Certificate { .. }
+        | Message::Challenge { .. } => Used { m: 0, ..u },
         Message::Measurements { .. } => Used { b: 0, ..u },
     }
 }
@@ -38,6 +39,7 @@ fn place_of(p: Part, u: Used) -> usize
     }
 }
 
+#[tactic(auto, unfolding(wire::specs::Pick::pick))]
 fn add_to(p: Part, u: Used, n: usize) -> Used
     requires { count_of p u + n ≤ limit_of p }
     ensures { result ≡ added_to p n u }
@@ -74,6 +76,7 @@ fn awaited_by(x: Exchange) -> Awaited
 }
 
 // A request's layout and its answer, one behind the other.
+#[tactic(auto, using(crate::proofs::RunLaws::runs))]
 fn append(t: &mut [u8], at: usize, request: &[u8], layout: usize, answer: &[u8], n: usize)
     requires { (layout ≤ length request.now) × (at ≤ transcript_length) }
     ensures { t.new
@@ -83,6 +86,7 @@ fn append(t: &mut [u8], at: usize, request: &[u8], layout: usize, answer: &[u8],
     wire::copy_into(t, at + layout, wire::part_of(answer, 0, n));
 }
 
+#[tactic(auto, using(crate::proofs::Carries::carries))]
 pub(crate) fn accept(
     s: State,
     accepted: Accepted,

@@ -1,16 +1,30 @@
 // ALGORITHMS.
 ghost use Rattle.std.specs.Prelude.{◌≡◌, ◌+◌, ◌*◌, ◌^◌, ◌≤◌};
 ghost use Rattle.wire.specs.Bytes.{splice};
-ghost use Rattle.image.specs.Contents.{Contents, ValidIdentity};
-ghost use Rattle.image.specs.Index.{index_of};
-ghost use Rattle.image.specs.Read.{Fine};
+ghost use Rattle.image.specs.Limits.{hash_limit, signature_limit};
 ghost use Rattle.rules.specs.Algorithms.{algorithms_bytes};
 ghost use Rattle.responder.specs.Bits.{bits_bytes};
+ghost use Rattle.responder.specs.Written.{Written};
 
+use crate::source::Source;
 use crate::zeros::write_zeros;
-use image::{Identity, Index};
-use rules::Negotiated;
-use rules::limits::{ALGORITHMS_CODE, ALGORITHMS_LENGTH};
+use image::Identity;
+use rules::limits::{ALGORITHMS_CODE, ALGORITHMS_LENGTH, HEADER_LENGTH};
+
+// Where the length stands, the measurement specification, what is selected of each kind, and the rest.
+const LENGTH_AT: usize = HEADER_LENGTH;
+
+const SPECIFICATION_AT: usize = 6;
+
+const MEASUREMENT_HASH_AT: usize = 8;
+
+const SIGNATURE_AT: usize = 12;
+
+const HASH_AT: usize = 16;
+
+const REST_AT: usize = 20;
+
+const REST_LENGTH: usize = ALGORITHMS_LENGTH - REST_AT;
 
 const BITS: [u16; 9] = [1, 2, 4, 8, 16, 32, 64, 128, 256];
 
@@ -31,23 +45,30 @@ fn measurement_hash(hash: u8, selection: u32) -> usize
 }
 
 // From MeasurementHashAlgo on: our bits, and the rest.
+#[tactic(auto, using(crate::proofs::AlgorithmLaws::bits))]
 fn write_bits(answer: &mut [u8], id: Identity, selection: u32)
-    requires { (ValidIdentity id) × (selection ≤ 1) }
+    requires { (id.hash ≤ hash_limit) × ((id.signature ≤ signature_limit) × (selection ≤ 1)) }
     ensures { answer.new ≡ splice answer.old 8 (bits_bytes id selection) }
 {
-    wire::put_le(answer, 8, 4, measurement_hash(id.hash, selection));
-    wire::put_le(answer, 12, 4, bit(id.signature));
-    wire::put_le(answer, 16, 4, bit(id.hash));
-    write_zeros(answer, 20, 16);
+    wire::put_le(
+        answer,
+        MEASUREMENT_HASH_AT,
+        4,
+        measurement_hash(id.hash, selection),
+    );
+    wire::put_le(answer, SIGNATURE_AT, 4, bit(id.signature));
+    wire::put_le(answer, HASH_AT, 4, bit(id.hash));
+    write_zeros(answer, REST_AT, REST_LENGTH);
 }
 
-pub(crate) fn write_algorithms(answer: &mut [u8], ix: Index, n: Negotiated)
-    requires { (Fine ix) × (n.selection ≤ 1) }
-    ensures { (c : Contents) → ix ≡ index_of c →
-        answer.new ≡ splice answer.old 0 (algorithms_bytes c n) }
+#[tactic(auto, using(crate::proofs::AlgorithmLaws::algorithms))]
+pub(crate) fn write_algorithms(answer: &mut [u8], source: &Source)
+    requires { source.now.negotiated.selection ≤ 1 }
+    ensures { Written source.now answer.old answer.new 0 (λ c. algorithms_bytes c source.now.negotiated) }
 {
+    let n = source.negotiated;
     wire::copy_into(answer, 0, &[state::version_of(n), ALGORITHMS_CODE, 0, 0]);
-    wire::put_le(answer, 4, 2, ALGORITHMS_LENGTH);
-    wire::copy_into(answer, 6, &[n.selection as u8, 0]);
-    write_bits(answer, ix.identity, n.selection);
+    wire::put_le(answer, LENGTH_AT, 2, ALGORITHMS_LENGTH);
+    wire::copy_into(answer, SPECIFICATION_AT, &[n.selection as u8, 0]);
+    write_bits(answer, source.image.index.identity, n.selection);
 }

@@ -1,13 +1,16 @@
 // CAPABILITIES.
 ghost use Rattle.std.specs.Prelude.{◌≡◌};
-ghost use Rattle.wire.specs.Bytes.{splice};
-ghost use Rattle.image.specs.Contents.{Contents};
-ghost use Rattle.image.specs.Index.{index_of};
 ghost use Rattle.rules.specs.Capabilities.{flags_of, capabilities_bytes};
+ghost use Rattle.responder.specs.Written.{Written};
 
+use crate::source::Source;
 use image::Index;
-use rules::Negotiated;
 use rules::limits::{CAPABILITIES_CODE, MEASURING_FLAGS, MESSAGE_LIMIT, PLAIN_FLAGS, VERSION_11};
+
+// Where the two sizes stand under 1.2.
+const TRANSFER_SIZE_AT: usize = 12;
+
+const MESSAGE_SIZE_AT: usize = 16;
 
 #[tactic(auto, using(wire::proofs::Picks::picks))]
 fn flags(ix: Index) -> u8
@@ -19,21 +22,22 @@ fn flags(ix: Index) -> u8
     MEASURING_FLAGS
 }
 
-pub(crate) fn write_capabilities(answer: &mut [u8], ix: Index, n: Negotiated)
-    ensures { (c : Contents) → ix ≡ index_of c →
-        answer.new ≡ splice answer.old 0 (capabilities_bytes c n) }
+#[tactic(auto, using(wire::proofs::Picks::picks, crate::proofs::RunLaws::runs), unfolding(rules::specs::Capabilities::capabilities_bytes, wire::specs::Pick::pick))]
+pub(crate) fn write_capabilities(answer: &mut [u8], source: &Source)
+    ensures { Written source.now answer.old answer.new 0 (λ c. capabilities_bytes c source.now.negotiated) }
 {
-    let version = state::version_of(n);
+    let index = source.image.index;
+    let version = state::version_of(source.negotiated);
     let head = [
         version,
         CAPABILITIES_CODE,
         0,
         0,
         0,
-        ix.identity.exponent,
+        index.identity.exponent,
         0,
         0,
-        flags(ix),
+        flags(index),
         0,
         0,
         0,
@@ -42,6 +46,6 @@ pub(crate) fn write_capabilities(answer: &mut [u8], ix: Index, n: Negotiated)
     if version == VERSION_11 {
         return;
     }
-    wire::put_le(answer, 12, 4, MESSAGE_LIMIT);
-    wire::put_le(answer, 16, 4, MESSAGE_LIMIT);
+    wire::put_le(answer, TRANSFER_SIZE_AT, 4, MESSAGE_LIMIT);
+    wire::put_le(answer, MESSAGE_SIZE_AT, 4, MESSAGE_LIMIT);
 }

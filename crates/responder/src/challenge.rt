@@ -1,16 +1,14 @@
 // CHALLENGE_AUTH.
-ghost use Rattle.std.specs.Prelude.{◌≡◌, [], eqb, length};
-ghost use Rattle.wire.specs.Bytes.{splice};
+ghost use Rattle.std.specs.Prelude.{◌≡◌, [], eqb};
 ghost use Rattle.wire.specs.Pick.{pick};
-ghost use Rattle.image.specs.Contents.{Contents};
 ghost use Rattle.image.specs.Index.{summary_at};
-ghost use Rattle.image.specs.Read.{ReadAs, Fine};
-ghost use Rattle.rules.specs.Limits.{nonce_length, tcb_measurements};
+ghost use Rattle.rules.specs.Limits.{tcb_measurements};
 ghost use Rattle.rules.specs.Challenge.{challenge_bytes};
+ghost use Rattle.responder.specs.Written.{Written};
 
+use crate::source::Source;
 use image::SlotNumber;
 use image_lookup::Image;
-use rules::Negotiated;
 use rules::limits::{CHALLENGE_CODE, HEADER_LENGTH, NONCE_LENGTH, TCB_MEASUREMENTS};
 
 // The summary hash that Param2 asks for, none for 0.
@@ -29,20 +27,14 @@ fn summary_asked<'a>(image: &Image<'a>, x: u8) -> &'a [u8]
     image.full_summary()
 }
 
-pub(crate) fn write_challenge(
-    answer: &mut [u8],
-    image: &Image,
-    nonce: &[u8],
-    n: Negotiated,
-    slot: SlotNumber,
-    x: u8,
-)
-    requires { (Fine image.now.index) × (length nonce.now ≡ nonce_length) }
-    ensures { (c : Contents) → ReadAs image.now.bytes.now image.now.index c →
-        answer.new ≡ splice answer.old 0 (challenge_bytes c nonce.now n slot.0 x) }
+#[tactic(auto, using(crate::proofs::KnownLaws::contents), unfolding(rules::specs::Challenge::challenge_bytes))]
+pub(crate) fn write_challenge(answer: &mut [u8], source: &Source, slot: SlotNumber, x: u8)
+    ensures { Written source.now answer.old answer.new 0
+        (λ c. challenge_bytes c source.now.nonce.now source.now.negotiated slot.0 x) }
 {
+    let image = source.image;
     let head = [
-        state::version_of(n),
+        state::version_of(source.negotiated),
         CHALLENGE_CODE,
         u8::from(slot),
         image_lookup::slot_mask(image.index),
@@ -51,8 +43,8 @@ pub(crate) fn write_challenge(
     let digest = image.digest(slot);
     wire::copy_into(answer, HEADER_LENGTH, digest);
     let at = HEADER_LENGTH + digest.len();
-    wire::copy_into(answer, at, nonce);
-    let summary = summary_asked(image, x);
+    wire::copy_into(answer, at, source.nonce);
+    let summary = summary_asked(&image, x);
     wire::copy_into(answer, at + NONCE_LENGTH, summary);
     wire::put_le(answer, at + NONCE_LENGTH + summary.len(), 2, 0);
 }

@@ -10,6 +10,7 @@ mod digests;
 mod measurements;
 mod messages;
 mod refuse;
+mod source;
 mod version;
 mod zeros;
 
@@ -25,6 +26,7 @@ ghost use Rattle.rules.specs.Box.{Lent, lengths_of, Responded};
 
 use image_lookup::Image;
 use rules::{Lengths, Outcome, Refusal, State};
+use source::Source;
 
 // A request on an image that was accepted: decided first, then carried out.
 fn answer_request(
@@ -53,7 +55,12 @@ fn answer_request(
         },
         Err(Refusal::Request(refused)) => refuse::refuse(s, answer, request, refused),
         Ok(accepted) => {
-            messages::write_message(answer, image, nonce, accepted.negotiated, accepted.message);
+            let source = Source {
+                image: *image,
+                nonce,
+                negotiated: accepted.negotiated,
+            };
+            messages::write_message(answer, &source, accepted.message);
             accept::accept(s, accepted, transcript, answer, request)
         }
     }

@@ -1,57 +1,65 @@
 // MEASUREMENTS.
-ghost use Rattle.std.specs.Prelude.{◌≡◌, ◌+◌, ◌≤◌, length, true};
+ghost use Rattle.std.specs.Prelude.{◌≡◌, ◌+◌, ◌-◌, ◌≤◌, length, true};
 ghost use Rattle.wire.specs.Bytes.{splice};
 ghost use Rattle.image.specs.Contents.{Contents};
-ghost use Rattle.rules.specs.Facts.{facts_at};
-ghost use Rattle.rules.specs.Limits.{message_limit, nonce_length};
+ghost use Rattle.decision.specs.ImageFacts.{facts_in};
+ghost use Rattle.rules.specs.Limits.{message_limit};
 ghost use Rattle.rules.specs.Measurements.{operation_fits, block_bytes, blocks_of, record_of, count_shown, slot_shown, measurements_bytes};
 ghost use Rattle.image.specs.Sizes.{digest_size, digest_most};
 ghost use Rattle.image.specs.Index.{index_of};
-ghost use Rattle.image.specs.Read.{ReadAs, Known};
+ghost use Rattle.responder.specs.Written.{Written};
 
+use crate::source::Source;
 use image::limits::LABEL_LENGTH;
 use image::{Index, SlotNumber};
-use image_lookup::Image;
+use rules::Operation;
 use rules::limits::{MEASUREMENTS_CODE, NONCE_LENGTH};
-use rules::{Negotiated, Operation};
+
+// Where the record's length stands, and the record.
+const RECORD_LENGTH_AT: usize = 5;
+
+const RECORD_AT: usize = 8;
+
+// A block's head is its index, the measurement specification and its size, and behind them the value's own: its type and size.
+const BLOCK_HEAD: usize = 4 + VALUE_HEAD;
+
+const VALUE_HEAD: usize = 3;
 
 // A block of a measurement that is given as index, type and digest.
-fn write_block(answer: &mut [u8], at: usize, h: usize, body: &[u8])
-    requires { (at ≤ message_limit) × ((h ≤ digest_most) × (length body.now ≡ 2 + h)) }
-    ensures { answer.new ≡ splice answer.old at (block_bytes h body.now) }
+#[tactic(auto, using(crate::proofs::MeasurementsLaws::blocks))]
+fn write_block(answer: &mut [u8], at: usize, body: &[u8])
+    requires { (at ≤ message_limit) × ((2 ≤ length body.now) × (length body.now ≤ 2 + digest_most)) }
+    ensures { answer.new ≡ splice answer.old at (block_bytes (length body.now - 2) body.now) }
 {
+    let digest = &body[LABEL_LENGTH..];
+    let h = digest.len();
     // H is at most 64: one byte of each size says it
-    let head = [body[0], 1, (3 + h) as u8, 0, body[1], h as u8, 0];
+    let head = [body[0], 1, (VALUE_HEAD + h) as u8, 0, body[1], h as u8, 0];
     wire::copy_into(answer, at, &head);
-    wire::copy_into(answer, at + head.len(), &body[LABEL_LENGTH..]);
+    wire::copy_into(answer, at + head.len(), digest);
 }
 
-fn write_all_blocks(answer: &mut [u8], at: usize, image: &Image)
-    requires { (at ≤ 8) × (Known image.now.bytes.now image.now.index) }
-    ensures { (c : Contents) → ReadAs image.now.bytes.now image.now.index c →
-        answer.new ≡ splice answer.old at (blocks_of (digest_size c.identity.hash) c.measurements) }
+#[tactic(auto, using(crate::proofs::KnownLaws::measuring))]
+fn write_all_blocks(answer: &mut [u8], source: &Source)
+    ensures { Written source.now answer.old answer.new 8 (λ c. blocks_of (digest_size c.identity.hash) c.measurements) }
 {
+    let image = source.image;
     let h = image::digest_size(image.index.identity.hash);
     for k in 0..usize::from(image.index.measurements) {
-        write_block(answer, at + k * (7 + h), h, image.nth_measurement(k));
+        let at = RECORD_AT + k * (BLOCK_HEAD + h);
+        write_block(answer, at, image.nth_measurement(k));
     }
 }
 
-fn write_record(answer: &mut [u8], at: usize, image: &Image, o: Operation)
-    requires { (at ≤ 8) × ((Known image.now.bytes.now image.now.index)
-        × (operation_fits (facts_at image.now.bytes.now image.now.index) o ≡ true)) }
-    ensures { (c : Contents) → ReadAs image.now.bytes.now image.now.index c →
-        answer.new ≡ splice answer.old at (record_of c o) }
+#[tactic(auto, using(crate::proofs::KnownLaws::measuring), unfolding(wire::specs::Bytes::splice))]
+fn write_record(answer: &mut [u8], source: &Source, o: Operation)
+    requires { operation_fits (facts_in source.now.image) o ≡ true }
+    ensures { Written source.now answer.old answer.new 8 (λ c. record_of c o) }
 {
     match o {
         Operation::Count => {}
-        Operation::All => write_all_blocks(answer, at, image),
-        Operation::One(index) => write_block(
-            answer,
-            at,
-            image::digest_size(image.index.identity.hash),
-            image.measurement(index),
-        ),
+        Operation::All => write_all_blocks(answer, source),
+        Operation::One(index) => write_block(answer, RECORD_AT, source.image.measurement(index)),
     }
 }
 
@@ -60,8 +68,7 @@ fn count_shown(ix: Index, o: Operation) -> u8
 {
     match o {
         Operation::Count => ix.measurements,
-        Operation::All => 0,
-        Operation::One(_) => 0,
+        Operation::All | Operation::One(_) => 0,
     }
 }
 
@@ -71,31 +78,31 @@ fn slot_shown(signer: Option<SlotNumber>) -> u8
     signer.map_or(0, u8::from)
 }
 
+#[tactic(auto, using(crate::proofs::KnownLaws::measuring), unfolding(rules::specs::Measurements::measurements_bytes))]
 pub(crate) fn write_measurements(
     answer: &mut [u8],
-    image: &Image,
-    nonce: &[u8],
-    n: Negotiated,
+    source: &Source,
     o: Operation,
     signer: Option<SlotNumber>,
 )
-    requires { (Known image.now.bytes.now image.now.index)
-        × ((length nonce.now ≡ nonce_length) × (operation_fits (facts_at image.now.bytes.now image.now.index) o ≡ true)) }
-    ensures { (c : Contents) → ReadAs image.now.bytes.now image.now.index c →
-        answer.new ≡ splice answer.old 0 (measurements_bytes c nonce.now n o signer) }
+    requires { operation_fits (facts_in source.now.image) o ≡ true }
+    ensures { Written source.now answer.old answer.new 0
+        (λ c. measurements_bytes c source.now.nonce.now source.now.negotiated o signer) }
 {
-    let blocks = decision::sizes::block_count(image.index, o);
-    let long = usize::from(blocks) * (7 + image::digest_size(image.index.identity.hash));
+    let index = source.image.index;
+    let blocks = decision::sizes::block_count(index, o);
+    let long = usize::from(blocks) * (BLOCK_HEAD + image::digest_size(index.identity.hash));
     let head = [
-        state::version_of(n),
+        state::version_of(source.negotiated),
         MEASUREMENTS_CODE,
-        count_shown(image.index, o),
+        count_shown(index, o),
         slot_shown(signer),
         blocks,
     ];
     wire::copy_into(answer, 0, &head);
-    wire::put_le(answer, 5, 3, long);
-    write_record(answer, 8, image, o);
-    wire::copy_into(answer, 8 + long, nonce);
-    wire::put_le(answer, 8 + long + NONCE_LENGTH, 2, 0);
+    wire::put_le(answer, RECORD_LENGTH_AT, 3, long);
+    write_record(answer, source, o);
+    let at = RECORD_AT + long;
+    wire::copy_into(answer, at, source.nonce);
+    wire::put_le(answer, at + NONCE_LENGTH, 2, 0);
 }

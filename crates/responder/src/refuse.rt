@@ -8,6 +8,7 @@ ghost use Rattle.rules.specs.Decision as decision;
 use rules::limits::{ERROR_CODE, HEADER_LENGTH, SIZE_STEP};
 use rules::{Outcome, Refused, State};
 
+#[tactic(auto, using(wire::proofs::Picks::picks, crate::proofs::RunLaws::runs), unfolding(rules::specs::Effects::effect_of, rules::specs::Header::refused_bytes, wire::specs::Pick::pick))]
 pub(crate) fn refuse(s: State, answer: &mut [u8], request: &[u8], refused: Refused) -> Outcome
     ensures { ((c : Contents) (t nonce : List ℕ) →
         let before : Lent = record { transcript = t; answer = answer.old } in

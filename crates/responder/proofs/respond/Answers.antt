@@ -1,6 +1,6 @@
 -- A refused image says its number. The index of an accepted one is that of its contents, and the request is answered by their rules.
 -- Assumes nothing.
-use Rattle.std.proofs.Common.{refl}
+use Rattle.std.proofs.Common.{refl, rules}
 use Rattle.rules.specs.Effects.{effect_by}
 use Rattle.responder.proofs.Carries.{no_answer}
 use Rattle.image.proofs.Verdicts.{known, number_read}
@@ -12,8 +12,8 @@ answer_request-requires c = known _ c.read_image.ensures _ c.in-Ok.is
 pub returns-in-Err : goal.returns-in-Err
 unfolding effect_by
 returns-in-Err c =
-    rw (number_read c.args.image.now c.read_image.ensures _ c.in-Err.is, c.into.ensures)
-    (record { reply = refl; state = refl; answer = no_answer _; transcript = refl })
+    rw (number_read c.args.image.now c.read_image.ensures _ c.in-Err.is)
+    (record { reply = search rules; state = refl; answer = no_answer _; transcript = refl })
 
 pub returns-in-Ok : goal.returns-in-Ok
 unfolding effect_by

@@ -11,5 +11,5 @@ use Rattle.responder.proofs.digests.write_digests.Given as goal
 abbrev pub invariant-loop-slot : goal.invariant-loop-slot
 invariant-loop-slot l =
     (l.at ≤ header_length + digest_most * l.slot)
-    × (splice l.answer l.at (joined_from (digest_at l.image.bytes.now l.image.index) l.slot (slot_count - l.slot))
-    ≡ splice l.initial.answer header_length (joined_from (digest_at l.image.bytes.now l.image.index) 0 slot_count))
+    × (splice l.answer l.at (joined_from (digest_at l.source.image.bytes.now l.source.image.index) l.slot (slot_count - l.slot))
+    ≡ splice l.initial.answer header_length (joined_from (digest_at l.source.image.bytes.now l.source.image.index) 0 slot_count))

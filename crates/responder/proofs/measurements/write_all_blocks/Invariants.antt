@@ -1,13 +1,10 @@
 -- The first k blocks stand one behind the other.
-use Rattle.std.proofs.Common.{◌≡◌, take}
-use Rattle.wire.specs.Bytes.{splice}
+use Rattle.std.proofs.Common.{take}
 use Rattle.image.specs.Sizes.{digest_size}
-use Rattle.image.specs.Contents.{Contents}
-use Rattle.image.specs.Read.{ReadAs}
 use Rattle.rules.specs.Measurements.{blocks_of}
+use Rattle.responder.specs.Written.{Written}
 use Rattle.responder.proofs.measurements.write_all_blocks.Given as goal
 
 abbrev pub invariant-loop-k : goal.invariant-loop-k
 invariant-loop-k l =
-    (d : Contents) → ReadAs l.image.bytes.now l.image.index d
-    → l.answer ≡ splice l.initial.answer l.at (blocks_of (digest_size d.identity.hash) (take l.k d.measurements))
+    Written l.source l.initial.answer l.answer 8 (λ d. blocks_of (digest_size d.identity.hash) (take l.k d.measurements))
