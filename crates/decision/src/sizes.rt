@@ -14,7 +14,7 @@ use rules::limits::{HEADER_LENGTH, NONCE_LENGTH};
 const RECORD_HEAD: usize = 4;
 
 // What a measurement block has beside its digest.
-const BLOCK_HEAD: usize = 7;
+pub const BLOCK_HEAD: usize = 7;
 
 // The length of the opaque data, which is none.
 const OPAQUE_LENGTH: usize = 2;

@@ -18,7 +18,7 @@ const CHALLENGE: usize = 36;
 const GET_CERTIFICATE: usize = 8;
 
 // The requests, each with its code.
-#[derive(Clone, Copy, Debug, PartialEq, Eq)]
+#[derive(Clone, Copy)]
 pub enum Request {
     Digests = 0x81,
     Certificate = 0x82,
@@ -49,7 +49,7 @@ impl fmt::Display for Request {
 }
 
 // What a peer's requests have in them: the version that it speaks, the slot, and CHALLENGE's Param2.
-#[derive(Clone, Copy, Debug, PartialEq, Eq)]
+#[derive(Clone, Copy)]
 pub struct Peer {
     pub version: u8,
     pub slot: u8,

@@ -35,7 +35,7 @@ impl fmt::Display for Sum<'_> {
     }
 }
 
-// Bytes in hex; of many, the first, and the sum of all.
+// Bytes in hex; of many, the first, and the sum of all. The programs share no crate: one for these lines and the sum would be no plainer.
 #[derive(Clone, Copy)]
 pub struct Hex<'a>(pub &'a [u8]);
 

@@ -4,7 +4,7 @@
 
 pub mod limits;
 
-ghost use Rattle.std.specs.Prelude.{◌≡◌, ◌≤◌};
+ghost use Rattle.std.specs.Prelude.{◌≡◌, ◌≤◌, get_or};
 ghost use Rattle.image.specs.Sizes.{digest_size, signature_size, digest_most, signature_most};
 ghost use Rattle.image.specs.Fault.{number_of};
 ghost use Rattle.image.specs.Index.{slot_number_of, measurement_index_of};
@@ -14,20 +14,25 @@ use limits::{
     WRONG_LENGTH, WRONG_OWN_LENGTH, WRONG_SIZE, WRONG_VERSION,
 };
 
-// Narrow entries: a table that is indexed stands on the stack, and is written there at each call. The two are of two widths, so one
-// function over both would be no plainer than the two below.
-const DIGEST_SIZES: [u8; 6] = [32, 48, 64, 32, 48, 64];
+const DIGEST_SIZES: [u16; 6] = [32, 48, 64, 32, 48, 64];
 
 const SIGNATURE_SIZES: [u16; 9] = [256, 256, 384, 384, 64, 512, 512, 96, 132];
+
+// The entry of a bit number, 0 where there is none.
+fn entry(sizes: &[u16], bit: u8) -> usize
+    ensures { result ≡ get_or sizes.now bit 0 }
+{
+    sizes
+        .get(usize::from(bit))
+        .map_or(0, |&size| usize::from(size))
+}
 
 // The bytes of a digest of the hash with that bit number, 0 where there is none.
 #[tactic(auto, using(crate::proofs::Sizes::digest_past), unfolding(crate::specs::Sizes::digest_size))]
 pub fn digest_size(hash: u8) -> usize
     ensures { (result ≡ digest_size hash) × (result ≤ digest_most) }
 {
-    DIGEST_SIZES
-        .get(usize::from(hash))
-        .map_or(0, |&size| usize::from(size))
+    entry(&DIGEST_SIZES, hash)
 }
 
 // The bytes of a signature of the algorithm with that bit number, 0 where there is none.
@@ -35,9 +40,7 @@ pub fn digest_size(hash: u8) -> usize
 pub fn signature_size(signature: u8) -> usize
     ensures { (result ≡ signature_size signature) × (result ≤ signature_most) }
 {
-    SIGNATURE_SIZES
-        .get(usize::from(signature))
-        .map_or(0, |&size| usize::from(size))
+    entry(&SIGNATURE_SIZES, signature)
 }
 
 // The number of a slot, 0 to 7: made only after its test. It and a measurement's index are two kinds of number, so two types.

@@ -93,7 +93,8 @@ impl<'a> Image<'a> {
         let Some(start) = self.chain_start(slot) else {
             return &[];
         };
-        let chain = wire::part_of(self.bytes, start, self.chain_length(slot));
+        let length = usize::from(wire::get_u16le(self.bytes, start));
+        let chain = wire::part_of(self.bytes, start, length);
         wire::part_of(chain, offset, len)
     }
 

@@ -162,6 +162,7 @@ fn walk(s: &[u8], identity: Identity) -> Result<Index, Fault>
     let mut bodies = [0; SLOT_COUNT];
     let mut first: u16 = 0;
     loop {
+        // the project has this answer taken apart by `let .. else`
         let read = read_record(s, at, w);
         let Ok(found) = read else {
             break Err(read.unwrap_err());

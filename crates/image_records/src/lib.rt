@@ -1,4 +1,5 @@
-// The tests of the provisioning image's records, each held against those before it. The reader and the writer make the same ones.
+// The tests of the provisioning image's records, each held against those before it. The reader and the writer make the same ones. Each test
+// has a line of its own, in the order of the definition.
 #![tactic(auto)]
 
 ghost use Rattle.std.specs.Prelude.{◌≡◌, get_or};

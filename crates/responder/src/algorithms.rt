@@ -26,14 +26,12 @@ const REST_AT: usize = 20;
 
 const REST_LENGTH: usize = ALGORITHMS_LENGTH - REST_AT;
 
-const BITS: [u16; 9] = [1, 2, 4, 8, 16, 32, 64, 128, 256];
-
 // The number whose one bit is n.
 fn bit(n: u8) -> usize
     requires { n ≤ 8 }
     ensures { result ≡ 2 ^ n }
 {
-    usize::from(BITS[usize::from(n)])
+    1 << n
 }
 
 // MeasurementHashAlgo: a bit where the specification is selected.

@@ -35,7 +35,7 @@ pub(crate) fn write_digests(answer: &mut [u8], source: &Source)
     let mask = image_lookup::slot_mask(source.image.index);
     wire::copy_into(answer, 0, &[version, DIGESTS_CODE, 0, mask]);
     let mut at = HEADER_LENGTH;
-    for slot in 0..=SLOT_LIMIT {
+    for slot in 0..SLOT_LIMIT + 1 {
         at = write_digest(answer, at, &source.image, slot);
     }
 }

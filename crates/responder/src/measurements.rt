@@ -10,6 +10,7 @@ ghost use Rattle.image.specs.Index.{index_of};
 ghost use Rattle.responder.specs.Written.{Written};
 
 use crate::source::Source;
+use decision::sizes::{BLOCK_HEAD, block_count};
 use image::limits::LABEL_LENGTH;
 use image::{Index, SlotNumber};
 use rules::Operation;
@@ -20,9 +21,7 @@ const RECORD_LENGTH_AT: usize = 5;
 
 const RECORD_AT: usize = 8;
 
-// A block's head is its index, the measurement specification and its size, and behind them the value's own: its type and size.
-const BLOCK_HEAD: usize = 4 + VALUE_HEAD;
-
+// What a block's value has beside its digest: its type and size. The block itself has its index before it, the specification and its size.
 const VALUE_HEAD: usize = 3;
 
 // A block of a measurement that is given as index, type and digest.
@@ -90,7 +89,7 @@ pub(crate) fn write_measurements(
         (λ c. measurements_bytes c source.now.nonce.now source.now.negotiated o signer) }
 {
     let index = source.image.index;
-    let blocks = decision::sizes::block_count(index, o);
+    let blocks = block_count(index, o);
     let long = usize::from(blocks) * (BLOCK_HEAD + image::digest_size(index.identity.hash));
     let head = [
         state::version_of(source.negotiated),

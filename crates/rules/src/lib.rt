@@ -166,8 +166,8 @@ pub struct Accepted {
     pub exchange: Exchange,
 }
 
-// An ERROR of the step that refuses. Step and code are numbers: steps are compared, and a code is the byte that is written. The size is
-// the answer's, which step 8 tells.
+// An ERROR of the step that refuses. Step and code are numbers, as state::refused promises what any step leaves, and a code is the byte that
+// is written. The size is the answer's, which step 8 tells.
 #[derive(Clone, Copy)]
 pub struct Refused {
     pub step: u8,

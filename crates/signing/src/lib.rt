@@ -181,7 +181,8 @@ fn finish_answer(
     }
 }
 
-// Finishes the awaited answer with the chip's signature, or with an ERROR where the chip failed.
+// Finishes the awaited answer with the chip's signature, or with an ERROR where the chip failed. No Option of a signature: the promise is of
+// any pair, and where the chip failed any signature passes.
 pub fn finish(
     image: &[u8],
     s: State,

@@ -4,7 +4,7 @@ use std::fmt;
 // The polynomial of IEEE 802.3, lowest bit first.
 const POLYNOMIAL: u32 = 0xEDB88320;
 
-// Bytes in hex, a single '-' for none.
+// Bytes in hex, a single '-' for none. The programs share no crate: one for these lines and the sum would be no plainer.
 #[derive(Clone, Copy)]
 pub struct Hex<'a>(pub &'a [u8]);
 
