@@ -1,5 +1,6 @@
 -- What the writers of the messages need of an image that the reader accepted: of its index and bytes alone, facts with one proof at most, which
 -- the truncated one gives; and that what is looked up is what the contents hold. Each writer's set of them is at the end. Assumes nothing.
+use Rattle.std.proofs.lemmas.List.{nil_from_length}
 use mathlib.Core.Path.{◌≡◌, ap, ◌∙◌}
 use mathlib.Core.Bool.{true}
 use mathlib.Core.List.{List}
@@ -98,4 +99,4 @@ pub ruleset measuring = (contents, digest-most, blocks_few, few-measurements, fe
 
 pub ruleset joining = (contents, one_more, no_more, joined_is)
 
-pub ruleset slots = (no-digest, slot_in)
+pub ruleset slots = (no-digest, slot_in, nil_from_length)

@@ -23,6 +23,10 @@ fn write_digest(answer: &mut [u8], at: usize, image: &Image, slot: u8) -> usize
         return at;
     };
     let digest = image.digest(k);
+    // most slots are not filled, and a copy of no bytes is a call
+    if digest.is_empty() {
+        return at;
+    }
     wire::copy_into(answer, at, digest);
     at + digest.len()
 }
@@ -35,7 +39,7 @@ pub(crate) fn write_digests(answer: &mut [u8], source: &Source)
     let mask = image_lookup::slot_mask(source.image.index);
     wire::copy_into(answer, 0, &[version, DIGESTS_CODE, 0, mask]);
     let mut at = HEADER_LENGTH;
-    for slot in 0..SLOT_LIMIT + 1 {
+    for slot in 0..=SLOT_LIMIT {
         at = write_digest(answer, at, &source.image, slot);
     }
 }
