@@ -7,6 +7,7 @@ use lib.Seq.{set_out}
 use borrow.Author.Tests.{lt-ltb, le-ltb, leb-true}
 use Rattle.wire.proofs.Picks.{either}
 use Rattle.image_lines.specs.Lines.{digit_of}
+use Rattle.image_lines.specs.Taking.{high_in}
 
 some_same : (a b : ℕ) → ◌≡◌ {A = Option ℕ} (Some a) (Some b) → a ≡ b
 some_same a b e = cc
@@ -25,5 +26,9 @@ digit_small x v e =
     (λ _ e. either (v < 16) _ _ _ _ e (λ _ f. absurd (none_some v f))
     (λ _ e. either (v < 16) _ _ _ _ e (λ t f. let s = some_same _ _ f in omega (arith, leb-true _ _ t)) (λ _ f. absurd (none_some v f)))))))
 
--- a byte is kept while there is room for it
-pub ruleset kept = (lt-ltb, le-ltb, set_out)
+pub high_small : (first : Option ℕ) (v : ℕ) → high_in first ≡ Some v → v < 16
+high_small None v e = absurd (none_some v e)
+high_small (Some x) v e = digit_small x v e
+
+-- two digits make a byte, which is kept while there is room for it
+pub ruleset kept = (digit_small, high_small, lt-ltb, le-ltb, set_out)

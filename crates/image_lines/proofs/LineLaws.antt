@@ -1,9 +1,9 @@
 -- What is kept of a line: its bytes, as many as the room holds, and none of a malformed line. Two digits make one byte, which is kept behind
--- those before it while there is room; a malformed line stays one. Assumes nothing.
+-- those before it while there is room; a character that is no digit marks the line for good. Assumes nothing.
 use mathlib.Core.Path.{◌≡◌, refl, sym, ap, ◌∙◌}
 use mathlib.Core.Bool.{Bool, true, false}
 use mathlib.Core.List.{List, [], ◌∷◌, ◌++◌, append-nil, append_assoc}
-use Prim.Native.Nat.{ℕ, ◌+◌, ◌≤◌, ◌<◌}
+use Prim.Native.Nat.{ℕ, ◌+◌, ◌*◌, ◌≤◌, ◌<◌}
 use native.Mathlib.Omega.{arith}
 use native.Mathlib.Numerals.{add-one}
 use Rattle.std.specs.Prelude.{Option, Some, None}
@@ -13,75 +13,81 @@ use lib.Dec.{ltb}
 use borrow.Author.Tests.{ltb-true, ltb-false, lt-ltb}
 use Rattle.wire.specs.Pick.{pick}
 use Rattle.wire.proofs.Picks.{pick_case}
-use Rattle.image_lines.specs.Lines.{byte_of, Decoded, malformed, bytes, decoded, before, bytes_of}
-use Rattle.image_lines.specs.Taking.{no_line, byte_kept, line_after, byte_put, char_put, room_after, line_bytes, begun}
+use Rattle.image_lines.specs.Lines.{digit_of, Decoded, malformed, bytes, decoded, before, bytes_of}
+use Rattle.image_lines.specs.Taking.{no_line, high_in, line_by, line_after, room_by, room_after, line_bytes, begun}
 use Rattle.image_lines.specs.declared.Line.{Line}
 
 -- a line and its room past some characters
-abbrev pub line_at : Option Line → List ℕ → List ℕ → Option Line
+abbrev pub line_at : Line → List ℕ → List ℕ → Line
 line_at l room [] = l
 line_at l room (x ∷ cs) = line_at (line_after l (length room) x) (room_after l room x) cs
 
-abbrev pub room_at : Option Line → List ℕ → List ℕ → List ℕ
+abbrev pub room_at : Line → List ℕ → List ℕ → List ℕ
 room_at l room [] = room
 room_at l room (x ∷ cs) = room_at (line_after l (length room) x) (room_after l room x) cs
 
 -- one character more
-pub line_more : (l : Option Line) (room cs : List ℕ) (x : ℕ) → line_at l room (cs ++ (x ∷ [])) ≡ line_after (line_at l room cs) (length (room_at l room cs)) x
+pub line_more : (l : Line) (room cs : List ℕ) (x : ℕ) → line_at l room (cs ++ (x ∷ [])) ≡ line_after (line_at l room cs) (length (room_at l room cs)) x
 line_more l room [] x = refl
 line_more l room (y ∷ cs) x = line_more (line_after l (length room) y) (room_after l room y) cs x
 
-pub room-more : (l : Option Line) (room cs : List ℕ) (x : ℕ) → room_at l room (cs ++ (x ∷ [])) ≡ room_after (line_at l room cs) (room_at l room cs) x
+pub room-more : (l : Line) (room cs : List ℕ) (x : ℕ) → room_at l room (cs ++ (x ∷ [])) ≡ room_after (line_at l room cs) (room_at l room cs) x
 room-more l room [] x = refl
 room-more l room (y ∷ cs) x = room-more (line_after l (length room) y) (room_after l room y) cs x
 
 -- the room stays as long as it is
-byte-put-length : (n : ℕ) (room : List ℕ) (b : Option ℕ) → length (byte_put n room b) ≡ length room
-byte-put-length n room None = refl
-byte-put-length n room (Some b) = length-set room n b
+room-by-length : (l : Line) (room : List ℕ) (low high : Option ℕ) → length (room_by l room low high) ≡ length room
+room-by-length l room None high = refl
+room-by-length l room (Some low) None = refl
+room-by-length l room (Some low) (Some high) = length-set room l.count (high * 16 + low)
 
-char-put-length : (n : ℕ) (room : List ℕ) (first : Option ℕ) (x : ℕ) → length (char_put n room first x) ≡ length room
-char-put-length n room None x = refl
-char-put-length n room (Some first) x = byte-put-length n room (byte_of first x)
+room-after-length : (l : Line) (room : List ℕ) (x : ℕ) → length (room_after l room x) ≡ length room
+room-after-length l room x = room-by-length l room (digit_of x) (high_in l.first)
 
-room-after-length : (l : Option Line) (room : List ℕ) (x : ℕ) → length (room_after l room x) ≡ length room
-room-after-length None room x = refl
-room-after-length (Some l) room x = char-put-length l.count room l.first x
-
-pub room-length : (l : Option Line) (room cs : List ℕ) → length (room_at l room cs) ≡ length room
+pub room-length : (l : Line) (room cs : List ℕ) → length (room_at l room cs) ≡ length room
 room-length l room [] = refl
 room-length l room (x ∷ cs) = room-length (line_after l (length room) x) (room_after l room x) cs ∙ room-after-length l room x
 
--- a line that has begun: every character leaves a mark, a malformed line, a first digit or a byte
-kept-begun : (n room : ℕ) (b : Option ℕ) → 0 < room → begun (byte_kept n room b) ≡ true
-kept-begun n room None h = refl
-kept-begun n room (Some b) h =
+-- a line that has begun: every character leaves a mark, a wrong one, a first digit or a byte
+count-begun : (n room : ℕ) → 0 < room → ltb 0 (pick (ltb n room) (n + 1) n) ≡ true
+count-begun n room h =
     pick_case (λ (k : ℕ). ltb 0 k ≡ true) (ltb n room) (n + 1) n
     (λ _. lt-ltb 0 (n + 1) (omega arith))
     (λ t. lt-ltb 0 n (omega (arith, ltb-false n room t)))
 
-begun-after : (l : Option Line) (room x : ℕ) → 0 < room → begun (line_after l room x) ≡ true
-begun-after None room x h = refl
-begun-after (Some l) room x h = by l.first
+begun-after : (l : Line) (room x : ℕ) → 0 < room → begun (line_after l room x) ≡ true
+unfolding pick
+begun-after l room x h = by l.bad (digit_of x) (high_in l.first) refl
   where
-    by : (first : Option ℕ) → begun (line_after (Some (record { first = first; count = l.count })) room x) ≡ true
-    by None = refl
-    by (Some first) = kept-begun l.count room (byte_of first x) h
+    by : (bad : Bool) (low high : Option ℕ) → digit_of x ≡ low
+        → begun (line_by (record { bad = bad; first = l.first; count = l.count }) room x low high) ≡ true
+    by bad None high e = refl
+    by true (Some low) None e = refl
+    by false (Some low) None e = rw e
+    by true (Some low) (Some high) e = refl
+    by false (Some low) (Some high) e = count-begun l.count room h
 
-pub line_begun : (l : Option Line) (room : List ℕ) (x : ℕ) (cs : List ℕ) → 0 < length room → begun (line_at l room (x ∷ cs)) ≡ true
+pub line_begun : (l : Line) (room : List ℕ) (x : ℕ) (cs : List ℕ) → 0 < length room → begun (line_at l room (x ∷ cs)) ≡ true
 line_begun l room x [] h = begun-after l (length room) x h
 line_begun l room x (y ∷ cs) h =
     let e = room-after-length l room x in
     line_begun (line_after l (length room) x) (room_after l room x) y cs (omega arith)
 
 -- a malformed line has no bytes, whatever follows
-wrong_line : (room cs : List ℕ) → line_bytes (line_at None room cs) (room_at None room cs) ≡ []
-wrong_line room [] = refl
-wrong_line room (x ∷ cs) = wrong_line room cs
+wrong_stays : (l : Line) (room x : ℕ) (low high : Option ℕ) → l.bad ≡ true → (line_by l room x low high).bad ≡ true
+wrong_stays l room x None high h = refl
+wrong_stays l room x (Some low) None h = h
+wrong_stays l room x (Some low) (Some high) h = h
+
+wrong_line : (l : Line) (room cs : List ℕ) → l.bad ≡ true → line_bytes (line_at l room cs) (room_at l room cs) ≡ []
+unfolding pick
+wrong_line l room [] h = rw h
+wrong_line l room (x ∷ cs) h =
+    wrong_line (line_after l (length room) x) (room_after l room x) cs (wrong_stays l (length room) x (digit_of x) (high_in l.first) h)
 
 -- a line of n bytes, of which no digit is left over
-abbrev whole : ℕ → Option Line
-whole n = Some (record { first = None; count = n })
+abbrev whole : ℕ → Line
+whole n = record { bad = false; first = None; count = n }
 
 -- what is kept of bytes behind the first n of the room
 kept : List ℕ → ℕ → Decoded → List ℕ
@@ -89,11 +95,17 @@ kept room n malformed = []
 kept room n (bytes m) = take (length room) (take n room ++ m)
 
 -- a line's bytes, past characters that follow those before them
-abbrev line_from : Option Line → List ℕ → List ℕ → List ℕ
+abbrev line_from : Line → List ℕ → List ℕ → List ℕ
 line_from l room cs = line_bytes (line_at l room cs) (room_at l room cs)
 
+-- a digit alone is left over
+single : (room : List ℕ) (n x : ℕ) (low : Option ℕ) → digit_of x ≡ low → line_from (whole n) room (x ∷ []) ≡ []
+unfolding pick
+single room n x None e = simp e
+single room n x (Some low) e = simp e
+
 -- the byte of two digits, then the characters behind it
-module _ (room : List ℕ) (n : ℕ) (cs : List ℕ) (h : n ≤ length room)
+module _ (room : List ℕ) (n x y : ℕ) (cs : List ℕ) (h : n ≤ length room)
     (rest : (room : List ℕ) (n : ℕ) → n ≤ length room → line_from (whole n) room cs ≡ kept room n (decoded cs)) where
   -- past the room a byte is lost
   room-full : (byte : ℕ) (d : Decoded) → length room ≤ n → kept room n d ≡ kept room n (before (Some byte) d)
@@ -109,23 +121,24 @@ module _ (room : List ℕ) (n : ℕ) (cs : List ℕ) (h : n ≤ length room)
   room-left byte malformed f = refl
   room-left byte (bytes m) f = rw (length-set room n byte, add-one n, take-suc-set room n byte f, append_assoc)
 
-  pair : (byte : Option ℕ) (more : Bool) → ltb n (length room) ≡ more
-      → line_from (byte_kept n (length room) byte) (byte_put n room byte) cs ≡ kept room n (before byte (decoded cs))
-  unfolding kept pick
-  pair None more g = wrong_line room cs
-  pair (Some byte) true g =
+  pair : (high low : Option ℕ) (more : Bool) → digit_of x ≡ high → digit_of y ≡ low → ltb n (length room) ≡ more
+      → line_from (whole n) room (x ∷ y ∷ cs) ≡ kept room n (decoded (x ∷ y ∷ cs))
+  unfolding decoded kept pick
+  pair None low more e f g = simp e (wrong_line (record { bad = true; first = None; count = n }) room (y ∷ cs) refl)
+  pair (Some high) None more e f g = simp (e, f) (wrong_line (record { bad = true; first = Some x; count = n }) room cs refl)
+  pair (Some high) (Some low) true e f g =
       let b : n < length room = ltb-true n (length room) g in
-      rw g (rest (set room n byte) (n + 1) (simp length-set (omega arith)) ∙ room-left byte (decoded cs) b)
-  pair (Some byte) false g =
+      simp (e, f, g) (rest (set room n (high * 16 + low)) (n + 1) (simp length-set (omega arith)) ∙ room-left (high * 16 + low) (decoded cs) b)
+  pair (Some high) (Some low) false e f g =
       let b : length room ≤ n = ltb-false n (length room) g in
-      rw (g, set_out room n byte b) (rest room n h ∙ room-full byte (decoded cs) b)
+      simp (e, f, g, set_out room n (high * 16 + low) b) (rest room n h ∙ room-full (high * 16 + low) (decoded cs) b)
 
 from-whole : (room : List ℕ) (n : ℕ) (cs : List ℕ) → n ≤ length room → line_from (whole n) room cs ≡ kept room n (decoded cs)
-unfolding kept decoded
+unfolding kept decoded pick
 from-whole room n [] h = let e = length-take-le n room h in sym (rw append-nil (take_all (length room) (take n room) (omega arith)))
-from-whole room n (x ∷ []) h = refl
+from-whole room n (x ∷ []) h = single room n x (digit_of x) refl
 from-whole room n (x ∷ y ∷ cs) h =
-    pair room n cs h (λ room n h. from-whole room n cs h) (byte_of x y) (ltb n (length room)) refl
+    pair room n x y cs h (λ room n h. from-whole room n cs h) (digit_of x) (digit_of y) (ltb n (length room)) refl refl refl
 
 at_start : (room : List ℕ) (d : Decoded) → kept room 0 d ≡ take (length room) (bytes_of d)
 unfolding kept

@@ -1,6 +1,6 @@
 -- A text taken character by character, in the room of one line and one image. Its law (proofs/TextWritten.antt): whatever parts a text comes
 -- in, its end answers as `text_writing` says.
-use Rattle.std.specs.Prelude.{Bool, true, List, [], ◌∷◌, ℕ, ◌+◌, length, take, set, ltb, eqb, Option, Some, None, Result as Answer}
+use Rattle.std.specs.Prelude.{Bool, true, false, List, [], ◌∷◌, ℕ, ◌+◌, ◌*◌, length, take, set, ltb, eqb, Option, Some, None, Result as Answer}
 use Rattle.wire.specs.Bytes.{splice}
 use Rattle.wire.specs.Pick.{pick}
 use Rattle.image.specs.Limits.{chain_limit}
@@ -11,7 +11,7 @@ use Rattle.image.specs.Fault.{told}
 use Rattle.image.specs.declared.Fault.{Fault}
 use Rattle.image_writer.specs.Draft.{and_then, opened_by, added, closed_all}
 use Rattle.image_writer.specs.declared.drafting.Draft.{Draft}
-use Rattle.image_lines.specs.Lines.{line_end, byte_of, no_version, first_in, record_in}
+use Rattle.image_lines.specs.Lines.{line_end, digit_of, no_version, first_in, record_in}
 use Rattle.image_lines.specs.declared.Line.{Line}
 use Rattle.image_lines.specs.declared.Text.{Text}
 
@@ -20,58 +20,54 @@ abbrev pub line_room : ℕ
 line_room = 1 + (1 + digest_most + chain_limit) + 1
 
 -- a line of which nothing has come
-abbrev pub no_line : Option Line
-no_line = Some (record { first = None; count = 0 })
+abbrev pub no_line : Line
+no_line = record { bad = false; first = None; count = 0 }
 
--- A line, and the room that its bytes are kept in, past one more character: a byte's first digit waits for the second. A malformed line
--- stays one.
-abbrev pub byte_kept : ℕ → ℕ → Option ℕ → Option Line
-byte_kept n room None = None
-byte_kept n room (Some b) = Some (record { first = None; count = pick (ltb n room) (n + 1) n })
+-- the value of a byte's first digit, which waits for the second; a character that is no digit is none
+abbrev pub high_in : Option ℕ → Option ℕ
+high_in None = None
+high_in (Some first) = digit_of first
 
-abbrev pub char_kept : ℕ → ℕ → Option ℕ → ℕ → Option Line
-char_kept n room None x = Some (record { first = Some x; count = n })
-char_kept n room (Some first) x = byte_kept n room (byte_of first x)
+-- A line, and the room that its bytes are kept in, past one more character, by its value and that of the digit that waits for it. A character
+-- that is no digit makes the line bad for good; the digits behind it go on making bytes.
+abbrev pub line_by : Line → ℕ → ℕ → Option ℕ → Option ℕ → Line
+line_by l room x None high = record { bad = true; first = l.first; count = l.count }
+line_by l room x (Some low) None = record { bad = l.bad; first = Some x; count = l.count }
+line_by l room x (Some low) (Some high) = record { bad = l.bad; first = None; count = pick (ltb l.count room) (l.count + 1) l.count }
 
-abbrev pub line_after : Option Line → ℕ → ℕ → Option Line
-line_after None room x = None
-line_after (Some l) room x = char_kept l.count room l.first x
+abbrev pub line_after : Line → ℕ → ℕ → Line
+line_after l room x = line_by l room x (digit_of x) (high_in l.first)
 
-abbrev pub byte_put : ℕ → List ℕ → Option ℕ → List ℕ
-byte_put n room None = room
-byte_put n room (Some b) = set room n b
+abbrev pub room_by : Line → List ℕ → Option ℕ → Option ℕ → List ℕ
+room_by l room None high = room
+room_by l room (Some low) None = room
+room_by l room (Some low) (Some high) = set room l.count (high * 16 + low)
 
-abbrev pub char_put : ℕ → List ℕ → Option ℕ → ℕ → List ℕ
-char_put n room None x = room
-char_put n room (Some first) x = byte_put n room (byte_of first x)
-
-abbrev pub room_after : Option Line → List ℕ → ℕ → List ℕ
-room_after None room x = room
-room_after (Some l) room x = char_put l.count room l.first x
+abbrev pub room_after : Line → List ℕ → ℕ → List ℕ
+room_after l room x = room_by l room (digit_of x) (high_in l.first)
 
 -- the bytes of a line that has ended: none of a malformed one
 abbrev pub whole_bytes : Option ℕ → List ℕ → List ℕ
 whole_bytes None b = b
-whole_bytes (Some first) b = []
+whole_bytes (Some high) b = []
 
-abbrev pub line_bytes : Option Line → List ℕ → List ℕ
-line_bytes None room = []
-line_bytes (Some l) room = whole_bytes l.first (take l.count room)
+abbrev pub line_bytes : Line → List ℕ → List ℕ
+line_bytes l room = pick l.bad [] (whole_bytes (high_in l.first) (take l.count room))
 
 -- whether a character of the line has come
 abbrev pub some_begun : Option ℕ → ℕ → Bool
 some_begun None n = ltb 0 n
-some_begun (Some first) n = true
+some_begun (Some high) n = true
 
-abbrev pub begun : Option Line → Bool
-begun None = true
-begun (Some l) = some_begun l.first l.count
+abbrev pub begun : Line → Bool
+begun l = pick l.bad true (some_begun (high_in l.first) l.count)
 
--- what the lines that have ended come to, nothing before the first has; a text without a line has no first byte
+-- what the lines that have ended come to, nothing before the first has
 abbrev pub drafted : Option (Answer Draft Fault) → Option (Result Draft)
 drafted None = None
 drafted (Some a) = Some (told a)
 
+-- a text without a line has no first byte
 abbrev pub draft_of : Option (Result Draft) → Result Draft
 draft_of None = opened_by no_version
 draft_of (Some d) = d
@@ -95,7 +91,7 @@ image_after (Some (found d)) b image =
 -- the state, and the two buffers that are lent with it
 pub record Taking : Type 0 where
   pub draft : Option (Result Draft)
-  pub line : Option Line
+  pub line : Line
   pub room : List ℕ
   pub image : List ℕ
 

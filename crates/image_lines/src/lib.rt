@@ -6,8 +6,8 @@ ghost use Rattle.std.specs.Prelude.{◌≡◌, length};
 ghost use Rattle.image.specs.Fault.{told};
 ghost use Rattle.image_writer.specs.Writing.{record_in as lent_record};
 ghost use Rattle.image_writer.specs.WriteError.{write_told};
-ghost use Rattle.image_lines.specs.Lines.{digit_of, byte_of, first_in, record_in};
-ghost use Rattle.image_lines.specs.Taking.{line_room, line_after, room_after, line_bytes, begun, drafted, draft_of, draft_after};
+ghost use Rattle.image_lines.specs.Lines.{digit_of, first_in, record_in};
+ghost use Rattle.image_lines.specs.Taking.{line_room, high_in, line_after, room_after, line_bytes, begun, drafted, draft_of, draft_after};
 ghost use Rattle.image_lines.specs.Taking.{image_after, taking_of, started, taken, taken_all, ended, answered};
 
 use image::Fault;
@@ -27,24 +27,26 @@ const DIGEST_MOST: usize = 64;
 // Room for the kind, the longest body that a record may have, and one byte more.
 const LINE_ROOM: usize = 1 + (1 + DIGEST_MOST + CHAIN_LIMIT) + 1;
 
-// What has come of a line: the first digit of a byte whose second is to come, and how many bytes are kept.
+// What has come of a line: whether a character is no hex digit, the first digit of a byte whose second is to come, and how many bytes are
+// kept. `bad` is a flag beside the rest, which goes on: what the room holds after a malformed line is promised.
 #[derive(Clone, Copy)]
 pub struct Line {
+    pub bad: bool,
     pub first: Option<u8>,
     pub count: usize,
 }
 
 const NEW_LINE: Line = Line {
+    bad: false,
     first: None,
     count: 0,
 };
 
-// What has come of a text: what the lines that have ended come to, nothing before the first has; and the line that has not, nothing where
-// it is malformed.
+// What has come of a text: what the lines that have ended come to, nothing before the first has; and the line that has not.
 #[derive(Clone, Copy)]
 pub struct Text {
     pub draft: Option<Result<Draft, Fault>>,
-    pub line: Option<Line>,
+    pub line: Line,
 }
 
 // The value of a hex digit in either case.
@@ -60,14 +62,6 @@ fn digit_value(x: u8) -> Option<u8>
     }
 }
 
-// The byte of two digits.
-#[tactic(auto, using(crate::proofs::Digits::digit_small))]
-fn byte_of(high: u8, low: u8) -> Option<u8>
-    ensures { result ≡ byte_of high low }
-{
-    Some(digit_value(high)? * 16 + digit_value(low)?)
-}
-
 // The room for a line, empty.
 pub fn line_room() -> [u8; LINE_ROOM]
     ensures { length result ≡ line_room }
@@ -75,45 +69,55 @@ pub fn line_room() -> [u8; LINE_ROOM]
     [0; LINE_ROOM]
 }
 
-// A line with a character more that is not its end.
-#[tactic(auto, using(crate::proofs::Digits::kept), unfolding(wire::specs::Pick::pick))]
-fn take_digit(line: Option<Line>, room: &mut [u8], x: u8) -> Option<Line>
-    ensures { (result ≡ line_after line (length room.old) x) × (room.new ≡ room_after line room.old x) }
-{
-    let Line { first, count } = line?;
-    let Some(first) = first else {
-        return Some(Line {
-            first: Some(x),
-            count,
-        });
-    };
-    let byte = byte_of(first, x)?;
-    if room.len() <= count {
-        return Some(Line { first: None, count });
+impl Line {
+    // The value of the first digit of a byte whose second is to come.
+    fn high(self) -> Option<u8>
+        ensures { result ≡ high_in self.first }
+    {
+        digit_value(self.first?)
     }
-    room[count] = byte;
-    Some(Line {
-        first: None,
-        count: count + 1,
-    })
-}
 
-// The bytes of a line that has ended, none of a malformed one.
-fn line_bytes(line: Option<Line>, room: &[u8]) -> &[u8]
-    ensures { result.now ≡ line_bytes line room.now }
-{
-    match line {
-        Some(Line { first: None, count }) => wire::part_of(room, 0, count),
-        _ => &[],
+    // The line with a character more that is not its end.
+    #[tactic(auto, using(crate::proofs::Digits::kept), unfolding(wire::specs::Pick::pick))]
+    fn take(self, room: &mut [u8], x: u8) -> Line
+        ensures { (result ≡ line_after self (length room.old) x) × (room.new ≡ room_after self room.old x) }
+    {
+        let Some(low) = digit_value(x) else {
+            return Line { bad: true, ..self };
+        };
+        let Some(high) = self.high() else {
+            return Line {
+                first: Some(x),
+                ..self
+            };
+        };
+        let mut next = Line {
+            first: None,
+            ..self
+        };
+        if self.count < room.len() {
+            room[self.count] = high * 16 + low;
+            next.count += 1;
+        }
+        next
     }
-}
 
-fn line_begun(line: Option<Line>) -> bool
-    ensures { result ≡ begun line }
-{
-    match line {
-        Some(line) => line.first.is_some() || 0 < line.count,
-        None => true,
+    // The bytes of a line that has ended, none of a malformed one.
+    #[tactic(auto, unfolding(wire::specs::Pick::pick))]
+    fn bytes(self, room: &[u8]) -> &[u8]
+        ensures { result.now ≡ line_bytes self room.now }
+    {
+        if self.bad || self.high().is_some() {
+            return &[];
+        }
+        wire::part_of(room, 0, self.count)
+    }
+
+    #[tactic(auto, unfolding(wire::specs::Pick::pick))]
+    fn begun(self) -> bool
+        ensures { result ≡ begun self }
+    {
+        self.bad || self.high().is_some() || 0 < self.count
     }
 }
 
@@ -163,7 +167,7 @@ impl Text {
     {
         Text {
             draft: None,
-            line: Some(NEW_LINE),
+            line: NEW_LINE,
         }
     }
 
@@ -174,14 +178,14 @@ impl Text {
             ≡ taken (taking_of self room.old image.old) x }
     {
         if x == LINE_END {
-            let draft = end_line(self.draft, line_bytes(self.line, room), image);
+            let draft = end_line(self.draft, self.line.bytes(room), image);
             return Text {
                 draft: Some(draft),
-                line: Some(NEW_LINE),
+                line: NEW_LINE,
             };
         }
         Text {
-            line: take_digit(self.line, room, x),
+            line: self.line.take(room, x),
             ..self
         }
     }
@@ -204,8 +208,8 @@ impl Text {
         ensures { (told result ≡ draft_of (ended (taking_of self room.now image.old)).draft)
             × (image.new ≡ (ended (taking_of self room.now image.old)).image) }
     {
-        if line_begun(self.line) {
-            return end_line(self.draft, line_bytes(self.line, room), image);
+        if self.line.begun() {
+            return end_line(self.draft, self.line.bytes(room), image);
         }
         self.draft.unwrap_or(Draft::open(NO_VERSION))
     }

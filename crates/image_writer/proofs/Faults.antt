@@ -9,7 +9,8 @@ use Rattle.image.specs.Sizes.{digest_size}
 use Rattle.image.specs.Contents.{record_bytes}
 use Rattle.image.specs.Reading.{Result, number, found, unless, identity_fault, slot_wrong, chain_fault, measurement_fault, summary_fault}
 use Rattle.image.specs.Reading.{record_fault, end_fault, extended, read_on, read_all}
-use Rattle.image_writer.specs.Writing.{Record, joined, sized, writing, lent}
+use Rattle.image_writer.specs.Writing.{Record, records_in, joined, sized, writing, lent}
+use Rattle.image_writer.specs.declared.Record.{Record as Lent}
 
 abbrev a : ℕ → List ℕ → Record
 a kind body = record { kind = kind; body = body }
@@ -71,3 +72,13 @@ faults : map (λ (x : Case). lent x.room (writing x.first x.records)) cases ≡ 
 unfolding digest_size pick unless identity_fault slot_wrong chain_fault measurement_fault summary_fault record_fault end_fault extended
     read_on read_all record_bytes joined sized writing lent
 faults = refl
+
+-- a lent record, wherever its body lies
+abbrev at : ℕ × ℕ → ℕ → List ℕ → Lent
+at place kind body = record { kind = kind; body = record { ref_ptr = place; now = body } }
+
+-- a lent slice of records stands for those records, kinds and bodies, in their order: an unknown kind, an empty body and no record among them
+slices : (p q r : ℕ × ℕ)
+    → records_in (at p 2 (10 ∷ 11 ∷ []) ∷ at q 9 [] ∷ at r 1 (12 ∷ []) ∷ []) ∷ records_in [] ∷ []
+    ≡ (a 2 (10 ∷ 11 ∷ []) ∷ a 9 [] ∷ a 1 (12 ∷ []) ∷ []) ∷ [] ∷ []
+slices p q r = refl

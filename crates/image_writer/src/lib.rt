@@ -65,9 +65,7 @@ impl Record<'_> {
             return;
         }
         let room = out.len() - at;
-        let len = self.body.len();
-        let high = (len / 256 % 256) as u8;
-        let low = (len % 256) as u8;
+        let [.., high, low] = self.body.len().to_be_bytes();
         wire::copy_into(out, at, &[high, low, self.kind]);
         if room <= HEAD_LENGTH {
             return;
