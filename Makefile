@@ -18,7 +18,7 @@ rust-test: $(RESPONDER_LIB) $(MAKE_IMAGE)
 bench: $(RESPONDER_LIB)
 	$(CARGO) run -q $(RUST) --bin bench
 
-library-test: fuzz-short demo-sanitized demo-image host-example bench-tools rust-test
+library-test: linked-names fuzz-short demo-sanitized demo-image host-example bench-tools rust-test
 
 test:
 	.ci/run

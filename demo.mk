@@ -3,6 +3,7 @@
 #   make demo-image   the demonstration's box as the bench's lines, made into its image by make_image
 #   make host-example a host that signs, built, questioned and its signature verified
 #   make bench-tools  bench/make-image and bench/image-info on good and bad lines
+#   make linked-names what the archive calls is what docs/HOST.md says, and no more
 #   make fuzz         the demonstration under the sanitizers, then FUZZ_SECONDS of libFuzzer, which sees the library's
 #                     own code; without clang's runtime, FUZZ_INPUTS inputs of the driver
 #   make fuzz-short   FUZZ_SHORT_INPUTS inputs, always the same ones, in a few seconds
@@ -24,7 +25,7 @@ HOST_OBJECTS := $(HOST_SOURCES:host/%.c=$(HOST_OUT)/%.o)
 FUZZ_SOURCES := $(wildcard fuzz/*.c)
 OPENSSL_PACKAGE := apt-get install -y libssl-dev
 
-.PHONY: demo demo-image demo-sanitized host-example bench-tools fuzz fuzz-short fuzz-libfuzzer fuzz-driver openssl-headers
+.PHONY: demo demo-image demo-sanitized host-example bench-tools linked-names fuzz fuzz-short fuzz-libfuzzer fuzz-driver openssl-headers
 
 SOURCES := crates.txt $(shell find crates -name out -prune -o \( -name '*.rt' -o -name '*.antt' \) -print 2>/dev/null)
 
@@ -47,6 +48,10 @@ target/staticlib/libspdm_responder.a: $(SOURCES)
 $(RESPONDER_MODULE): target/staticlib/libspdm_responder.a targets/module
 	@mkdir -p $(@D)
 	$(call told,targets/module $@ $(RESPONDER_RT),target/module.log)
+
+linked-names: $(RESPONDER_LIB)
+	@names=$$(nm -u $< | awk '$$1 == "U" { print $$2 }' | sort -u | paste -sd ' '); \
+	    test "$$names" = "memcpy memset" || { echo "$< calls: $$names" >&2; exit 1; }
 
 $(HOST_OUT):
 	mkdir -p $@

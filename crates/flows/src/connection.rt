@@ -4,7 +4,6 @@ use crate::request::{Peer, Request, VERSION_10, VERSION_11};
 use crate::show::Hex;
 use crate::signed::Signed;
 use rules::{HostError, Outcome, State};
-use std::io;
 
 // The buffers that are lent.
 const TRANSCRIPT: usize = 36864;
@@ -119,28 +118,28 @@ impl<'a, P: Print> Connection<'a, P> {
         wire::part_of(&self.answer, 0, length)
     }
 
-    // Sends a request, finishes the answer if it is a signed one, and prints both.
-    pub fn ask(&mut self, request: Request, bytes: &[u8]) -> io::Result<()> {
-        print!(self.rt; "  {request} {}", Hex(bytes))?;
+    // Sends a request, finishes the answer if it is a signed one, and prints both. What cannot be written is let go.
+    pub fn ask(&mut self, request: Request, bytes: &[u8]) {
+        let _ = print!(self.rt; "  {request} {}", Hex(bytes));
         let mut reply = self.exchange(bytes);
         if self.is_unsigned() {
             let signed = Signed {
                 state: self.state,
                 transcript: &self.transcript,
             };
-            print!(self.rt; " {signed}")?;
+            let _ = print!(self.rt; " {signed}");
             reply = self.finish();
         }
-        match reply {
+        let _ = match reply {
             Ok(length) => {
                 println!(self.rt; " -> {}", Hex(wire::part_of(&self.answer, 0, length)))
             }
             Err(error) => println!(self.rt; " -> number {}", error.number()),
-        }
+        };
     }
 
     // Sends a GET_CAPABILITIES.
-    fn capabilities(&mut self, version: u8) -> io::Result<()> {
+    fn capabilities(&mut self, version: u8) {
         let mut bytes = CAPABILITIES;
         bytes[0] = version;
         if version == VERSION_11 {
@@ -151,31 +150,30 @@ impl<'a, P: Print> Connection<'a, P> {
     }
 
     // Sends a NEGOTIATE_ALGORITHMS.
-    fn algorithms(&mut self, version: u8) -> io::Result<()> {
+    fn algorithms(&mut self, version: u8) {
         let mut bytes = OFFER;
         bytes[0] = version;
         self.ask(Request::Algorithms, &bytes)
     }
 
     // Sends a CHALLENGE.
-    pub fn challenge(&mut self, peer: Peer) -> io::Result<()> {
+    pub fn challenge(&mut self, peer: Peer) {
         self.ask(Request::Challenge, &peer.challenge(&REQUESTER_NONCE))
     }
 
     // Reads a slot's chain to its end, each time with the largest length.
-    fn read_chain(&mut self, peer: Peer) -> io::Result<()> {
+    fn read_chain(&mut self, peer: Peer) {
         for offset in (0..LONGEST).step_by(PORTION) {
             let bytes = peer.get_certificate(offset, u16::MAX);
-            self.ask(Request::Certificate, &bytes)?;
+            self.ask(Request::Certificate, &bytes);
             if is_last(&self.answer) {
                 break;
             }
         }
-        Ok(())
     }
 
     // Sends a request, a GET_CERTIFICATE until the chain is read.
-    fn send(&mut self, request: Request, peer: Peer) -> io::Result<()> {
+    fn send(&mut self, request: Request, peer: Peer) {
         match request {
             Request::Version => self.ask(request, &[VERSION_10, request.code(), 0, 0]),
             Request::Digests => self.ask(request, &[peer.version, request.code(), 0, 0]),
@@ -187,10 +185,9 @@ impl<'a, P: Print> Connection<'a, P> {
     }
 
     // Sends a run of requests.
-    pub fn run(&mut self, requests: &[Request], peer: Peer) -> io::Result<()> {
+    pub fn run(&mut self, requests: &[Request], peer: Peer) {
         for &request in requests {
-            self.send(request, peer)?;
+            self.send(request, peer);
         }
-        Ok(())
     }
 }

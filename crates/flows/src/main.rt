@@ -9,57 +9,47 @@ mod flow;
 mod images;
 mod reading;
 mod request;
+mod room;
 mod show;
 mod signed;
 
 use bench::Bench;
+use images::IMAGE;
 use request::{Peer, Request, VERSION_11, VERSION_12};
-use std::alloc::Global;
-use std::io;
 
 // CHALLENGE before NEGOTIATE_ALGORITHMS gets UnexpectedRequest, and with another version byte VersionMismatch.
-fn paper_challenge(bench: &Bench<'_, impl Print>) -> io::Result<()> {
-    println!(bench.rt; "paper: CHALLENGE in phase 2")?;
+fn paper_challenge(rt: &impl Print, image: &[u8]) {
+    let _ = println!(rt; "paper: CHALLENGE in phase 2");
+    let bench = Bench { rt, image };
     let mut connection = bench.connect();
     connection.run(
         &[Request::Version, Request::Capabilities],
         Peer::new(VERSION_12),
-    )?;
+    );
     for version in [VERSION_12, VERSION_11] {
         let bytes = Peer::new(version).challenge(&[0; 32]);
-        connection.ask(Request::Challenge, &bytes)?;
+        connection.ask(Request::Challenge, &bytes);
     }
-    Ok(())
 }
 
 // The smallest image has 80 bytes and is accepted; without its last byte the host sees number 3.
-fn paper_smallest(rt: &impl Print, alloc: Global) -> io::Result<()> {
-    let smallest = images::smallest(alloc)?;
-    let image = smallest.as_slice();
-    Bench { rt, image }.version()?;
+fn paper_smallest(rt: &impl Print, room: &mut [u8; IMAGE]) {
+    let image = images::smallest(room);
+    Bench { rt, image }.version();
     let image = wire::part_of(image, 0, image.len().saturating_sub(1));
     Bench { rt, image }.version()
 }
 
-fn run(rt: &impl Print, alloc: Global) -> io::Result<()> {
-    let image = images::bench(alloc)?;
-    let bench = Bench {
-        rt,
-        image: image.as_slice(),
-    };
-    paper_challenge(&bench)?;
-    paper_smallest(rt, alloc)?;
-    reading::paper_longest(rt, alloc)?;
-    bench.all_flows()?;
-    let full = images::full(alloc)?;
-    let image = full.as_slice();
-    Bench { rt, image }.all_flows()
+fn all_flows(rt: &impl Print, image: &[u8]) {
+    Bench { rt, image }.all_flows();
 }
 
-// Memory that runs out ends the program with an error. A write that fails is let go, with status 0: whoever reads may have seen enough.
-fn main(rt: HostRuntime) -> io::Result<()> {
-    match run(&rt, rt.alloc()) {
-        Err(error) if error.kind() == io::ErrorKind::OutOfMemory => Err(error),
-        _ => Ok(()),
-    }
+// One room for all images: each is put together when its turn comes.
+fn main(rt: HostRuntime) {
+    let mut room = [0u8; IMAGE];
+    paper_challenge(&rt, images::bench(&mut room));
+    paper_smallest(&rt, &mut room);
+    reading::paper_longest(&rt, &mut room);
+    all_flows(&rt, images::bench(&mut room));
+    all_flows(&rt, images::full(&mut room));
 }

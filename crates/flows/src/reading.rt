@@ -2,10 +2,13 @@
 use crate::connection::{Connection, is_last};
 use crate::flow::NEGOTIATION;
 use crate::images;
+use crate::images::{IMAGE, LONGEST};
 use crate::request::{Peer, VERSION_12};
+use crate::room::Room;
 use crate::show::Sum;
-use std::alloc::{AllocError, Global};
-use std::io;
+
+// Room for the longest chain.
+const CHAIN: usize = LONGEST as usize;
 
 // Where the chain starts in its image, which ends with it: behind the first 7 bytes, a head of 3, the slot and a digest of 32.
 const CHAIN_START: usize = 43;
@@ -23,9 +26,9 @@ const PORTION_AT: usize = 8;
 
 // How many reads there were, and the portions that they gave, joined.
 #[derive(Drop)]
-struct Reading {
+struct Reading<'a> {
     reads: u16,
-    chain: Vec<u8>,
+    chain: &'a [u8],
 }
 
 // The portion that a CERTIFICATE has; an ERROR is too short for one.
@@ -35,40 +38,42 @@ fn portion_of(answer: &[u8]) -> &[u8] {
 }
 
 // Reads the chain until no byte remains, each time at the sum of the portions that are held.
-fn read_portions(
+fn read_portions<'a>(
     connection: &mut Connection<'_, impl Print>,
     peer: Peer,
-    alloc: Global,
-) -> Result<Reading, AllocError> {
-    let mut chain = Vec::new(alloc);
-    for reads in 1..=READS_TRIED {
-        let offset = u16::try_from(chain.len()).unwrap_or(u16::MAX);
+    room: &'a mut [u8; CHAIN],
+) -> Reading<'a> {
+    let mut chain = Room::new(room);
+    let mut reads = 0;
+    for k in 1..=READS_TRIED {
+        reads = k;
+        let offset = u16::try_from(chain.length()).unwrap_or(u16::MAX);
         let answer = connection.answer_to(&peer.get_certificate(offset, ASKED));
-        chain.extend_from_slice(portion_of(answer))?;
+        chain.put(portion_of(answer));
         if is_last(answer) {
-            return Ok(Reading { reads, chain });
+            break;
         }
     }
-    Ok(Reading {
-        reads: READS_TRIED,
-        chain,
-    })
+    Reading {
+        reads,
+        chain: chain.into_slice(),
+    }
 }
 
 // Restarts, negotiates and asks for the digests, then reads the chain: how many reads there were, the portions joined beside
 // the chain as the image has it, and what B holds then. It takes 482 reads.
-pub fn paper_longest(rt: &impl Print, alloc: Global) -> io::Result<()> {
-    println!(rt; "paper: the longest chain by 34 bytes")?;
-    let image = images::longest(alloc)?;
-    let bytes = image.as_slice();
-    let mut connection = Connection::new(rt, bytes);
+pub fn paper_longest(rt: &impl Print, room: &mut [u8; IMAGE]) {
+    let _ = println!(rt; "paper: the longest chain by 34 bytes");
+    let image = images::longest(room);
+    let mut connection = Connection::new(rt, image);
     let peer = Peer::new(VERSION_12);
-    connection.run(&NEGOTIATION, peer)?;
-    let Reading { reads, chain } = read_portions(&mut connection, peer, alloc)?;
-    println!(rt;
+    connection.run(&NEGOTIATION, peer);
+    let mut chain = [0u8; CHAIN];
+    let Reading { reads, chain } = read_portions(&mut connection, peer, &mut chain);
+    let _ = println!(rt;
         "  {reads} GET_CERTIFICATE for {ASKED} bytes each -> {}; in the image {}; B has {} bytes",
-        Sum(chain.as_slice()),
-        Sum(wire::part_of(bytes, CHAIN_START, bytes.len())),
+        Sum(chain),
+        Sum(wire::part_of(image, CHAIN_START, image.len())),
         connection.used_b()
-    )
+    );
 }

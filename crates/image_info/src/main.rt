@@ -1,11 +1,13 @@
 // Reads a provisioning image on standard input and prints what it holds, or why the reader refuses it.
 #![tactic(auto)]
 
+ghost use Rattle.std.specs.Prelude.{◌≤◌, length};
+
 use image::limits::{IMAGE_LIMIT, SLOT_LIMIT};
 use image::{Fault, SlotNumber};
 use image_lookup::Image;
+use std::fmt;
 use std::io::Read;
-use std::{fmt, io};
 
 // One byte more than an image may have, so that too long an image is seen to be.
 const MOST: usize = IMAGE_LIMIT + 1;
@@ -63,24 +65,24 @@ impl fmt::Display for Hex<'_> {
 struct Contents<'a>(Image<'a>);
 
 impl Contents<'_> {
-    fn print_identity(&self, rt: &impl Print) -> io::Result<()> {
+    fn print_identity(&self, rt: &impl Print) {
         let id = self.0.index.identity;
-        println!(rt; "CTExponent {}", id.exponent)?;
-        println!(rt;
+        let _ = println!(rt; "CTExponent {}", id.exponent);
+        let _ = println!(rt;
             "hash {} (bit {}, digests of {} bytes)",
             name(&HASHES, id.hash),
             id.hash,
             image::digest_size(id.hash)
-        )?;
-        println!(rt;
+        );
+        let _ = println!(rt;
             "signature {} (bit {}, {} bytes)",
             name(&SIGNATURES, id.signature),
             id.signature,
             image::signature_size(id.signature)
-        )
+        );
     }
 
-    fn print_slots(&self, rt: &impl Print) -> io::Result<()> {
+    fn print_slots(&self, rt: &impl Print) {
         for k in 0..=SLOT_LIMIT {
             let Some(slot) = SlotNumber::new(k) else {
                 continue;
@@ -88,54 +90,68 @@ impl Contents<'_> {
             let length = self.0.chain_length(slot);
             if length > 0 {
                 let digest = Hex(self.0.digest(slot));
-                println!(rt; "slot {k}: chain of {length} bytes, digest {digest}")?;
+                let _ = println!(rt; "slot {k}: chain of {length} bytes, digest {digest}");
             }
         }
-        Ok(())
     }
 
     // A measurement is its index, its type and its digest.
-    fn print_measurements(&self, rt: &impl Print) -> io::Result<()> {
+    fn print_measurements(&self, rt: &impl Print) {
         for k in 0..usize::from(self.0.index.measurements) {
             if let [index, kind, digest @ ..] = self.0.nth_measurement(k) {
-                println!(rt; "measurement {index}: type {kind}, digest {}", Hex(digest))?;
+                let _ = println!(rt; "measurement {index}: type {kind}, digest {}", Hex(digest));
             }
         }
-        Ok(())
     }
 
-    fn print(&self, rt: &impl Print) -> io::Result<()> {
-        self.print_identity(rt)?;
-        self.print_slots(rt)?;
+    fn print(&self, rt: &impl Print) {
+        self.print_identity(rt);
+        self.print_slots(rt);
         if self.0.index.measurements == 0 {
-            return Ok(());
+            return;
         }
-        self.print_measurements(rt)?;
-        println!(rt; "summary of the TCB {}", Hex(self.0.tcb_summary()))?;
-        println!(rt; "summary of all {}", Hex(self.0.full_summary()))
+        self.print_measurements(rt);
+        let _ = println!(rt; "summary of the TCB {}", Hex(self.0.tcb_summary()));
+        let _ = println!(rt; "summary of all {}", Hex(self.0.full_summary()));
     }
 }
 
-fn print_image(rt: &impl Print, bytes: &[u8]) -> io::Result<()> {
+// A line that cannot be written is let go, and the next is tried.
+fn print_image(rt: &impl Print, bytes: &[u8]) {
     let length = bytes.len();
     let more = if length == MOST { " or more" } else { "" };
-    print!(rt; "image of {length} bytes{more}")?;
+    let _ = print!(rt; "image of {length} bytes{more}");
     match image_reader::read_image(bytes) {
         Ok(index) => {
-            println!(rt; ": accepted")?;
-            Contents(Image { bytes, index }).print(rt)
+            let _ = rt.println(": accepted");
+            Contents(Image { bytes, index }).print(rt);
         }
-        Err(fault) => println!(rt; "\nrefused: {} ({})", fault.number(), meaning(fault)),
+        Err(fault) => {
+            let _ = println!(rt; "\nrefused: {} ({})", fault.number(), meaning(fault));
+        }
     }
 }
 
-// A read that fails ends the image, but for want of memory, and output that cannot be written is left.
-fn main(rt: HostRuntime) {
-    let mut image = Vec::new(rt.alloc());
-    let read = rt.reader().take(MOST as u64).read_to_end(&mut image);
-    if read.is_err_and(|error| error.kind() == io::ErrorKind::OutOfMemory) {
-        let _ = eprintln!(rt; "image_info: out of memory");
-        return;
+// Reads until the room is full, the input ends or a read fails, and answers how many bytes there are then. Not read_to_end: that asks for
+// memory, which may run out, and for few bytes at a time.
+fn read_full(stdin: &mut impl Read, room: &mut [u8]) -> usize
+    ensures { result ≤ length room.new }
+{
+    let mut done = 0;
+    while done < room.len() {
+        let Ok(n) = stdin.read(&mut room[done..]) else {
+            break;
+        };
+        if n == 0 {
+            break;
+        }
+        done += n;
     }
-    let _ = print_image(&rt, &image);
+    done
+}
+
+fn main(rt: HostRuntime) {
+    let mut room = [0u8; MOST];
+    let length = read_full(&mut rt.reader(), &mut room);
+    print_image(&rt, &room[..length]);
 }

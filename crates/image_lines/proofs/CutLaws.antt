@@ -94,8 +94,9 @@ long_refused (Some w) kind body h l =
 
 -- so it is refused in a draft, whole or cut
 record_cut : (d : Draft) (kind n : ℕ) (body : List ℕ) (cut : Bool) → Small d.seen → 1 + digest_most + chain_limit < n → ltb n (length body) ≡ cut
-    → (m : List ℕ) → made_after (record { draft = Some (found d); image = m }) (kind ∷ take n body) ≡ made_after (record { draft = Some (found d); image = m }) (kind ∷ body)
-record_cut d kind n body true h b e m =
+    → (g : Draft) (m : List ℕ)
+    → made_after (record { draft = Some (found d); good = g; image = m }) (kind ∷ take n body) ≡ made_after (record { draft = Some (found d); good = g; image = m }) (kind ∷ body)
+record_cut d kind n body true h b e g m =
     let t : n < length body = ltb-true n (length body) e in
     let l : length (take n body) ≡ n = length-take-le n body (omega arith) in
     rw (long_refused d.seen kind (take n body) h (long d.seen (take n body) h (omega arith)), long_refused d.seen kind body h (long d.seen body h (omega arith)))
@@ -103,8 +104,8 @@ record_cut d kind n body true h b e m =
     long : (s : Option Seen) (body : List ℕ) → Small s → 1 + digest_most + chain_limit < length body → long_past s body
     long None body h l = l
     long (Some w) body h l = omega arith
-record_cut d kind n body false h b e m =
-    ap (λ (l : List ℕ). made_after (record { draft = Some (found d); image = m }) (kind ∷ l)) (take_all n body (ltb-false n (length body) e))
+record_cut d kind n body false h b e g m =
+    ap (λ (l : List ℕ). made_after (record { draft = Some (found d); good = g; image = m }) (kind ∷ l)) (take_all n body (ltb-false n (length body) e))
 
 first_cut : (n : ℕ) (b : List ℕ) → first_in (take (suc (suc n)) b) ≡ first_in b
 first_cut n [] = refl
@@ -115,14 +116,14 @@ pub line_cut : (m : Made) (n : ℕ) (b : List ℕ) → Sized m.draft → line_ro
 line_cut m n b h r = by m.draft n b h r
   where
     by : (d : Option (Result Draft)) (n : ℕ) (b : List ℕ) → Sized d → line_room ≤ n
-        → made_after (record { draft = d; image = m.image }) (take n b) ≡ made_after (record { draft = d; image = m.image }) b
+        → made_after (record { draft = d; good = m.good; image = m.image }) (take n b) ≡ made_after (record { draft = d; good = m.good; image = m.image }) b
     by None zero b h r = absurd (omega arith)
     by None (suc zero) b h r = absurd (omega arith)
     by None (suc (suc n)) b h r = rw (first_cut n b)
     by (Some (number k)) n b h r = refl
     by (Some (found d)) zero b h r = absurd (omega arith)
     by (Some (found d)) (suc n) [] h r = refl
-    by (Some (found d)) (suc n) (k ∷ body) h r = record_cut d k n body (ltb n (length body)) h (omega arith) refl m.image
+    by (Some (found d)) (suc n) (k ∷ body) h r = record_cut d k n body (ltb n (length body)) h (omega arith) refl m.good m.image
 
 -- the size stays one of the table
 size-after : (w : Seen) (kind key : ℕ) → (seen_after w kind key).size ≡ w.size

@@ -1,17 +1,22 @@
--- *faults* of the bench's text: texts with the image that each asks for, or its number, computed from the definitions. Assumes nothing.
+-- *faults* of the bench's text: texts with the image that each asks for, or its number, and what a refused line leaves, computed from the
+-- definitions. Assumes nothing.
 use mathlib.Core.Path.{◌≡◌, refl}
 use mathlib.Core.List.{List, [], ◌∷◌, ◌++◌, map}
 use Prim.Native.Nat.{ℕ, zero, suc}
 use lib.ListN.{replicate}
-use Rattle.std.specs.Prelude.{Some, None}
+use Rattle.std.specs.Prelude.{Option, Some, None}
+use Rattle.wire.specs.Bytes.{splice}
 use Rattle.wire.specs.Pick.{pick}
 use Rattle.image.specs.Sizes.{digest_size}
 use Rattle.image.specs.Contents.{record_bytes}
 use Rattle.image.specs.Reading.{Result, number, found, unless, identity_fault, slot_wrong, chain_fault, measurement_fault, summary_fault}
 use Rattle.image.specs.Reading.{record_fault, end_fault, extended, read_on, read_all}
 use Rattle.image_writer.specs.Writing.{joined, sized, writing}
+use Rattle.image_records.specs.Records.{held_of}
+use Rattle.image_writer.specs.Draft.{opened_by, longer, first_held}
+use Rattle.image_writer.specs.declared.drafting.Draft.{Draft}
 use Rattle.image_lines.specs.Lines.{lines_from, digit_of, decoded, text_writing}
-use Rattle.image_lines.specs.Taking.{line_room}
+use Rattle.image_lines.specs.Taking.{line_room, taking_of, started, taken, taken_all}
 
 -- n times the digits x and y
 abbrev times : ℕ → ℕ → ℕ → List ℕ
@@ -74,3 +79,28 @@ digits = refl
 
 room : line_room ≡ 16451
 room = refl
+
+-- What lines have come to, how long the good part is, and the buffer. A line refused for its kind, and the good one behind it, leave what
+-- was; so does a malformed one, and a wrong first byte, which is put all the same, and counts.
+record Left : Type 0 where
+  come : Option (Result Draft)
+  good : ℕ
+  image : List ℕ
+
+abbrev left : List (List ℕ) → Left
+left ls =
+    let t = taken_all (taking_of started (replicate 8 0) (replicate 9 0)) (text ls) in
+    record { come = t.draft; good = t.good.length; image = t.image }
+
+abbrev put : List ℕ
+put = 1 ∷ 0 ∷ 3 ∷ 1 ∷ 14 ∷ 0 ∷ 4 ∷ 0 ∷ 0 ∷ []
+
+good_part :
+    map left ((first ∷ identity 101 ∷ (57 ∷ 57 ∷ []) ∷ identity 101 ∷ []) ∷ (first ∷ identity 101 ∷ (48 ∷ []) ∷ []) ∷ ((48 ∷ 50 ∷ []) ∷ identity 101 ∷ []) ∷ [])
+    ≡ record { come = Some (number 4); good = 7; image = put }
+    ∷ record { come = Some (number 4); good = 7; image = put }
+    ∷ record { come = Some (number 2); good = 1; image = 2 ∷ replicate 8 0 }
+    ∷ []
+unfolding digest_size pick unless identity_fault chain_fault measurement_fault summary_fault record_fault record_bytes splice held_of first_held
+    opened_by longer digit_of taken
+good_part = refl

@@ -22,7 +22,7 @@ use Rattle.image.specs.declared.Seen.{Seen}
 use Rattle.image.proofs.Growth.{number-found, found-same}
 use Rattle.image.proofs.Framed.{record_length}
 use Rattle.image_lines.specs.Lines.{decoded, bytes_of, first_in, record_in, first_of, records_of}
-use Rattle.image_lines.specs.Taking.{if_good}
+use Rattle.image_lines.specs.Taking.{no_record, good_after, if_good}
 use Rattle.image_lines.proofs.Made.{Made, nothing_made, made_by}
 
 -- a good draft past a record counts it
@@ -35,15 +35,15 @@ grows d e (number k) body p = absurd (number-found _ _ p)
 grows d e (found w) body p = ap (λ (d : Draft). d.length) (sym (found-same _ _ p))
 
 -- what lines make of a draft that is none any more, or of one that is
-abbrev from_draft : Result Draft → List ℕ → List (List ℕ) → Made
-from_draft d image ls = made_by (record { draft = Some d; image = image }) ls
+abbrev from_draft : Result Draft → Draft → List ℕ → List (List ℕ) → Made
+from_draft d g image ls = made_by (record { draft = Some d; good = g; image = image }) ls
 
-stays-bad : (k : ℕ) (image : List ℕ) (ls : List (List ℕ)) (e : Draft) → (from_draft (number k) image ls).draft ≡ Some (found e) → ⊥
-stays-bad k image [] e p = number-found _ _ (some-same _ _ p)
+stays-bad : (k : ℕ) (g : Draft) (image : List ℕ) (ls : List (List ℕ)) (e : Draft) → (from_draft (number k) g image ls).draft ≡ Some (found e) → ⊥
+stays-bad k g image [] e p = number-found _ _ (some-same _ _ p)
   where
     some-same : (a b : Result Draft) → ◌≡◌ {A = Option (Result Draft)} (Some a) (Some b) → a ≡ b
     some-same a b e = cc
-stays-bad k image (l ∷ ls) e p = stays-bad k image ls e p
+stays-bad k g image (l ∷ ls) e p = stays-bad k g image ls e p
 
 -- within the limit a record more is counted whole
 longer-by : (n : ℕ) (body : List ℕ) → n ≤ image_limit → longer n body ≡ n + (head_length + length body)
@@ -59,17 +59,17 @@ record Put (d : Draft) (image : List ℕ) (put : List ℕ) (e : Draft) (records 
   stands : e.length ≤ image_limit → put ≡ splice image d.length records
 
 module _ (ls : List (List ℕ)) (e : Draft)
-    (rest : (d : Draft) (image : List ℕ) → (from_draft (found d) image ls).draft ≡ Some (found e) → Put d image (from_draft (found d) image ls).image e (records_in ls)) where
-  record-put : (d : Draft) (r : Record) (image : List ℕ) (a : Result Draft) → added d r ≡ a
-      → (from_draft a (if_good a (splice image d.length (record_bytes r.kind r.body)) image) ls).draft ≡ Some (found e)
-      → Put d image (from_draft a (if_good a (splice image d.length (record_bytes r.kind r.body)) image) ls).image e (record_bytes r.kind r.body ++ records_in ls)
-  record-put d r image (number k) q p = absurd (stays-bad k image ls e p)
-  record-put d r image (found f) q p =
+    (rest : (d g : Draft) (image : List ℕ) → (from_draft (found d) g image ls).draft ≡ Some (found e) → Put d image (from_draft (found d) g image ls).image e (records_in ls)) where
+  record-put : (d g : Draft) (r : Record) (image : List ℕ) (a : Result Draft) → added d r ≡ a
+      → (from_draft a (good_after a g) (if_good a (splice image d.length (record_bytes r.kind r.body)) image) ls).draft ≡ Some (found e)
+      → Put d image (from_draft a (good_after a g) (if_good a (splice image d.length (record_bytes r.kind r.body)) image) ls).image e (record_bytes r.kind r.body ++ records_in ls)
+  record-put d g r image (number k) q p = absurd (stays-bad k g image ls e p)
+  record-put d g r image (found f) q p =
       let xs = record_bytes r.kind r.body in
       let n = head_length + length r.body in
       let g = grows d f (seen_past d.seen r.kind r.body) r.body q in
       let m = longer-more d.length r.body in
-      let i = rest f (splice image d.length xs) p in
+      let i = rest f f (splice image d.length xs) p in
       record {
         more = omega (arith, i.more);
         stands = λ h.
@@ -82,13 +82,13 @@ module _ (ls : List (List ℕ)) (e : Draft)
 good-same : (a b : Draft) → ◌≡◌ {A = Option (Result Draft)} (Some (found a)) (Some (found b)) → a ≡ b
 good-same a b e = cc
 
-records-put : (ls : List (List ℕ)) (e d : Draft) (image : List ℕ) → (from_draft (found d) image ls).draft ≡ Some (found e)
-    → Put d image (from_draft (found d) image ls).image e (records_in ls)
+records-put : (ls : List (List ℕ)) (e d g : Draft) (image : List ℕ) → (from_draft (found d) g image ls).draft ≡ Some (found e)
+    → Put d image (from_draft (found d) g image ls).image e (records_in ls)
 unfolding splice joined
-records-put [] e d image p = record { more = omega (arith, ap (λ (d : Draft). d.length) (good-same d e p)); stands = λ h. refl }
-records-put (l ∷ ls) e d image p =
+records-put [] e d g image p = record { more = omega (arith, ap (λ (d : Draft). d.length) (good-same d e p)); stands = λ h. refl }
+records-put (l ∷ ls) e d g image p =
     let r = record_in (bytes_of (decoded l)) in
-    record-put ls e (λ d image p. records-put ls e d image p) d r image (added d r) refl p
+    record-put ls e (λ d g image p. records-put ls e d g image p) d g r image (added d r) refl p
 
 opened-length : (first : ℕ) (d : Draft) → opened_by first ≡ found d → d.length ≡ 1
 unfolding opened_by
@@ -97,13 +97,13 @@ opened-length first d e =
 
 -- the whole image: the first byte stands at the start, the records behind it
 module _ (ls : List (List ℕ)) (e : Draft) (h : e.length ≤ image_limit) where
-  first-put : (image : List ℕ) (first : ℕ) (o : Result Draft) → (from_draft o (splice image 0 (first ∷ [])) ls).draft ≡ Some (found e) → opened_by first ≡ o
-      → (from_draft o (splice image 0 (first ∷ [])) ls).image ≡ splice image 0 (first ∷ records_in ls)
+  first-put : (g : Draft) (image : List ℕ) (first : ℕ) (o : Result Draft) → (from_draft o (good_after o g) (splice image 0 (first ∷ [])) ls).draft ≡ Some (found e)
+      → opened_by first ≡ o → (from_draft o (good_after o g) (splice image 0 (first ∷ [])) ls).image ≡ splice image 0 (first ∷ records_in ls)
   unfolding splice
-  first-put image first (number k) p q = absurd (stays-bad k (splice image 0 (first ∷ [])) ls e p)
-  first-put image first (found d) p q = (records-put ls e d (splice image 0 (first ∷ [])) p).stands h ∙ ap (λ (n : ℕ). splice (set image 0 first) n (records_in ls)) (opened-length first d q)
+  first-put g image first (number k) p q = absurd (stays-bad k g (splice image 0 (first ∷ [])) ls e p)
+  first-put g image first (found d) p q = (records-put ls e d d (splice image 0 (first ∷ [])) p).stands h ∙ ap (λ (n : ℕ). splice (set image 0 first) n (records_in ls)) (opened-length first d q)
 
 pub image-put : (image : List ℕ) (ls : List (List ℕ)) (e : Draft) → (made_by (nothing_made image) ls).draft ≡ Some (found e) → e.length ≤ image_limit
     → (made_by (nothing_made image) ls).image ≡ splice image 0 (image_of (first_of ls) (records_of ls))
 image-put image [] e p h = absurd (let z : ◌≡◌ {A = ℕ} 0 1 = cc in omega arith)
-image-put image (l ∷ ls) e p h = first-put ls e h image (first_in (bytes_of (decoded l))) (opened_by (first_in (bytes_of (decoded l)))) p refl
+image-put image (l ∷ ls) e p h = first-put ls e h no_record image (first_in (bytes_of (decoded l))) (opened_by (first_in (bytes_of (decoded l)))) p refl

@@ -1,9 +1,9 @@
 -- The machine that takes a text character by character makes what its lines make, one after the other; and those make the draft of the
--- first byte and the records that the lines ask for. A line that has ended has left its bytes in the room, and what the room cuts off changes
+-- first byte and the records that the lines ask for, and leave what those before the first fault come to. A line that has ended has left its bytes in the room, and what the room cuts off changes
 -- nothing. Assumes nothing.
 use mathlib.Core.Path.{◌≡◌, refl, ap, ◌∙◌}
 use mathlib.Core.Bool.{Bool, true, false}
-use Rattle.std.specs.Prelude.{Some}
+use Rattle.std.specs.Prelude.{Some, None}
 use mathlib.Core.List.{List, [], ◌∷◌, ◌++◌, map}
 use Prim.Native.Nat.{ℕ, suc, ◌≤◌}
 use native.Mathlib.Omega.{arith}
@@ -12,10 +12,11 @@ use lib.Dec.{eqb}
 use borrow.Author.Tests.{ne_eqb}
 use Rattle.wire.specs.Pick.{pick}
 use Rattle.image.specs.Reading.{Result}
-use Rattle.image_writer.specs.Draft.{opened_by, added_all}
+use Rattle.image_writer.specs.Writing.{Record}
+use Rattle.image_writer.specs.Draft.{and_then, opened_by, added, added_all}
 use Rattle.image_writer.specs.declared.drafting.Draft.{Draft}
-use Rattle.image_lines.specs.Lines.{line_end, lines_from, lines_of, decoded, bytes_of, record_in, first_of, records_of}
-use Rattle.image_lines.specs.Taking.{Taking, taking_of, started, line_room, no_line, draft_of, draft_after, image_after, char_taken, line_taken, taken, taken_all, ended}
+use Rattle.image_lines.specs.Lines.{line_end, lines_from, lines_of, decoded, bytes_of, first_in, record_in, first_of, records_of}
+use Rattle.image_lines.specs.Taking.{Taking, taking_of, started, line_room, no_line, no_record, draft_of, draft_after, good_after, image_after, char_taken, line_taken, taken, taken_all, ended}
 use Rattle.image_lines.proofs.LineLaws.{line_at, room_at, line_more, room-more, room-length, line_begun, line_law}
 use Rattle.image_lines.proofs.Made.{Made, made_in, nothing_made, made_after, made_by}
 use Rattle.image_lines.proofs.CutLaws.{Sized, line_cut, sized-after}
@@ -29,6 +30,7 @@ taken-parts t (x ∷ p) q = taken-parts (taken t x) p q
 abbrev within : Made → List ℕ → List ℕ → Taking
 within m room cs = record {
   draft = m.draft;
+  good = m.good;
   line = line_at no_line room cs;
   room = room_at no_line room cs;
   image = m.image;
@@ -70,17 +72,44 @@ pub text_made : (text room image : List ℕ) → line_room ≤ length room
 text_made text room image h = lines_made (nothing_made image) room [] text h tt
 
 -- the lines behind the first make the draft of their records
-records_drafted : (d : Result Draft) (image : List ℕ) (ls : List (List ℕ))
-    → draft_of (made_by (record { draft = Some d; image = image }) ls).draft ≡ added_all d (map (λ (l : List ℕ). record_in (bytes_of (decoded l))) ls)
-records_drafted d image [] = refl
-records_drafted d image (l ∷ ls) =
+records_drafted : (d : Result Draft) (good : Draft) (image : List ℕ) (ls : List (List ℕ))
+    → draft_of (made_by (record { draft = Some d; good = good; image = image }) ls).draft ≡ added_all d (map (λ (l : List ℕ). record_in (bytes_of (decoded l))) ls)
+records_drafted d good image [] = refl
+records_drafted d good image (l ∷ ls) =
     let b = bytes_of (decoded l) in
-    records_drafted (draft_after (Some d) b) (image_after (Some d) b image) ls
+    records_drafted (draft_after (Some d) b) (good_after (draft_after (Some d) b) good) (image_after (Some d) b image) ls
 
 pub lines_drafted : (image : List ℕ) (ls : List (List ℕ)) → draft_of (made_by (nothing_made image) ls).draft ≡ added_all (opened_by (first_of ls)) (records_of ls)
 lines_drafted image [] = refl
-lines_drafted image (l ∷ ls) = records_drafted _ (made_after (nothing_made image) (bytes_of (decoded l))).image ls
+lines_drafted image (l ∷ ls) =
+    let m = made_after (nothing_made image) (bytes_of (decoded l)) in
+    records_drafted _ m.good m.image ls
 
 pub text_drafted : (text room image : List ℕ) → line_room ≤ length room
     → draft_of (ended (taken_all (taking_of started room image) text)).draft ≡ added_all (opened_by (first_of (lines_of text))) (records_of (lines_of text))
 text_drafted text room image h = ap (λ (m : Made). draft_of m.draft) (text_made text room image h) ∙ lines_drafted image (lines_of text)
+
+-- what the records before the first fault come to, behind a good part that stands already
+abbrev pub good_all : Result Draft → Draft → List Record → Draft
+good_all d good [] = good_after d good
+good_all d good (r ∷ rs) = good_all (and_then d (λ (d : Draft). added d r)) (good_after d good) rs
+
+-- so the lines leave it
+records_good : (d : Result Draft) (good : Draft) (image : List ℕ) (ls : List (List ℕ))
+    → (made_by (record { draft = Some d; good = good_after d good; image = image }) ls).good
+    ≡ good_all d good (map (λ (l : List ℕ). record_in (bytes_of (decoded l))) ls)
+records_good d good image [] = refl
+records_good d good image (l ∷ ls) =
+    let b = bytes_of (decoded l) in
+    records_good (draft_after (Some d) b) (good_after d good) (image_after (Some d) b image) ls
+
+pub lines_good : (image : List ℕ) (ls : List (List ℕ)) → (made_by (nothing_made image) ls).good ≡ good_all (opened_by (first_of ls)) no_record (records_of ls)
+unfolding opened_by pick
+lines_good image [] = refl
+lines_good image (l ∷ ls) =
+    let b = bytes_of (decoded l) in
+    records_good (opened_by (first_in b)) no_record (image_after None b image) ls
+
+pub text_good : (text room image : List ℕ) → line_room ≤ length room
+    → (ended (taken_all (taking_of started room image) text)).good ≡ good_all (opened_by (first_of (lines_of text))) no_record (records_of (lines_of text))
+text_good text room image h = ap (λ (m : Made). m.good) (text_made text room image h) ∙ lines_good image (lines_of text)

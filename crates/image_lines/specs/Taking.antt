@@ -77,6 +77,11 @@ abbrev pub draft_after : Option (Result Draft) → List ℕ → Result Draft
 draft_after None b = opened_by (first_in b)
 draft_after (Some d) b = and_then d (λ (d : Draft). added d (record_in b))
 
+-- what the lines before the first fault come to, past one more: a refused line adds nothing
+abbrev pub good_after : Result Draft → Draft → Draft
+good_after (number k) good = good
+good_after (found d) good = d
+
 -- the image past a line's bytes: a good record is put behind those before it
 abbrev pub if_good : Result Draft → List ℕ → List ℕ → List ℕ
 if_good (number k) put image = image
@@ -91,20 +96,26 @@ image_after (Some (found d)) b image =
 -- the state, and the two buffers that are lent with it
 pub record Taking : Type 0 where
   pub draft : Option (Result Draft)
+  pub good : Draft
   pub line : Line
   pub room : List ℕ
   pub image : List ℕ
 
 abbrev pub taking_of : Text → List ℕ → List ℕ → Taking
-taking_of t room image = record { draft = drafted t.draft; line = t.line; room = room; image = image }
+taking_of t room image = record { draft = drafted t.draft; good = t.good; line = t.line; room = room; image = image }
+
+-- the first byte alone, a wrong one too
+abbrev pub no_record : Draft
+no_record = record { seen = None; length = 1 }
 
 -- before the first character
 abbrev pub started : Text
-started = record { draft = None; line = no_line }
+started = record { draft = None; good = no_record; line = no_line }
 
 abbrev pub char_taken : Taking → ℕ → Taking
 char_taken t x = record {
   draft = t.draft;
+  good = t.good;
   line = line_after t.line (length t.room) x;
   room = room_after t.line t.room x;
   image = t.image;
@@ -113,6 +124,7 @@ char_taken t x = record {
 abbrev pub line_taken : Taking → Taking
 line_taken t = record {
   draft = Some (draft_after t.draft (line_bytes t.line t.room));
+  good = good_after (draft_after t.draft (line_bytes t.line t.room)) t.good;
   line = no_line;
   room = t.room;
   image = image_after t.draft (line_bytes t.line t.room) t.image;

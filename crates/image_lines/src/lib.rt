@@ -42,12 +42,20 @@ const NEW_LINE: Line = Line {
     count: 0,
 };
 
-// What has come of a text: what the lines that have ended come to, nothing before the first has; and the line that has not.
+// What has come of a text: what the lines that have ended come to, nothing before the first has; what those before the first fault came
+// to, whose length, up to an image's limit, is where their records in the image buffer end; and the line that has not ended.
 #[derive(Clone, Copy)]
 pub struct Text {
     pub draft: Option<Result<Draft, Fault>>,
+    pub good: Draft,
     pub line: Line,
 }
+
+// The first byte alone, a wrong one too.
+const NO_RECORD: Draft = Draft {
+    seen: None,
+    length: 1,
+};
 
 // The value of a hex digit in either case.
 #[tactic(auto, using(wire::proofs::Picks::picks), unfolding(crate::specs::Lines::digit_of))]
@@ -167,6 +175,7 @@ impl Text {
     {
         Text {
             draft: None,
+            good: NO_RECORD,
             line: NEW_LINE,
         }
     }
@@ -181,6 +190,7 @@ impl Text {
             let draft = end_line(self.draft, self.line.bytes(room), image);
             return Text {
                 draft: Some(draft),
+                good: draft.unwrap_or(self.good),
                 line: NEW_LINE,
             };
         }

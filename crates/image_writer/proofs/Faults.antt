@@ -9,7 +9,7 @@ use Rattle.image.specs.Sizes.{digest_size}
 use Rattle.image.specs.Contents.{record_bytes}
 use Rattle.image.specs.Reading.{Result, number, found, unless, identity_fault, slot_wrong, chain_fault, measurement_fault, summary_fault}
 use Rattle.image.specs.Reading.{record_fault, end_fault, extended, read_on, read_all}
-use Rattle.image_writer.specs.Writing.{Record, records_in, joined, sized, writing, lent}
+use Rattle.image_writer.specs.Writing.{Record, records_in, records_lent, joined, sized, writing, lent}
 use Rattle.image_writer.specs.declared.Record.{Record as Lent}
 
 abbrev a : ℕ → List ℕ → Record
@@ -73,12 +73,19 @@ unfolding digest_size pick unless identity_fault slot_wrong chain_fault measurem
     read_on read_all record_bytes joined sized writing lent
 faults = refl
 
+-- a body is as many of the bytes that are left as its length says, 0 where there is no length, fewer where the bytes end sooner
+slices :
+    records_in (1 ∷ 2 ∷ []) (2 ∷ 3 ∷ 9 ∷ []) (10 ∷ 11 ∷ 12 ∷ 13 ∷ 14 ∷ 15 ∷ [])
+    ++ records_in (3 ∷ 4 ∷ []) (2 ∷ []) (20 ∷ [])
+    ≡ a 1 (10 ∷ 11 ∷ []) ∷ a 2 (12 ∷ 13 ∷ 14 ∷ []) ∷ a 3 (20 ∷ []) ∷ a 4 [] ∷ []
+slices = refl
+
 -- a lent record, wherever its body lies
 abbrev at : ℕ × ℕ → ℕ → List ℕ → Lent
 at place kind body = record { kind = kind; body = record { ref_ptr = place; now = body } }
 
 -- a lent slice of records stands for those records, kinds and bodies, in their order: an unknown kind, an empty body and no record among them
-slices : (p q r : ℕ × ℕ)
-    → records_in (at p 2 (10 ∷ 11 ∷ []) ∷ at q 9 [] ∷ at r 1 (12 ∷ []) ∷ []) ∷ records_in [] ∷ []
+slice : (p q r : ℕ × ℕ)
+    → records_lent (at p 2 (10 ∷ 11 ∷ []) ∷ at q 9 [] ∷ at r 1 (12 ∷ []) ∷ []) ∷ records_lent [] ∷ []
     ≡ (a 2 (10 ∷ 11 ∷ []) ∷ a 9 [] ∷ a 1 (12 ∷ []) ∷ []) ∷ [] ∷ []
-slices p q r = refl
+slice p q r = refl

@@ -1,3 +1,4 @@
 pub mod Writing
+pub mod Remaining
 pub mod WriteError
 pub mod Draft

@@ -1,5 +1,5 @@
 -- What the writer makes of a first byte and records: the image, or a number. The tests are the reader's own (`read_all`).
-use Rattle.std.specs.Prelude.{◌≡◌, List, [], ◌∷◌, ◌++◌, map, ℕ, length, ltb, eqb}
+use Rattle.std.specs.Prelude.{◌≡◌, List, [], ◌∷◌, ◌++◌, map, ℕ, length, get_or, take, drop, ltb, eqb}
 use Rattle.wire.specs.Bytes.{splice}
 use Rattle.wire.specs.Pick.{pick}
 use Rattle.image.specs.Limits.{image_limit, image_version, identity_kind, chain_kind, measurement_kind, summary_kind, wrong_size, wrong_version}
@@ -16,12 +16,19 @@ pub record Record : Type 0 where
   pub kind : ℕ
   pub body : List ℕ
 
--- the record that a lent one is, and the records of a call
+-- the records that the slices of a call are: one for each kind; its body is as many of the bytes that are left as its length says, 0 where
+-- there is no length, and fewer where the bytes end sooner
+abbrev pub records_in : List ℕ → List ℕ → List ℕ → List Record
+records_in [] lengths bodies = []
+records_in (k ∷ kinds) lengths bodies =
+    record { kind = k; body = take (get_or lengths 0 0) bodies } ∷ records_in kinds (drop 1 lengths) (drop (get_or lengths 0 0) bodies)
+
+-- the record that a lent one is, and those that a slice of them is
 abbrev pub record_in : Lent → Record
 record_in r = record { kind = r.kind; body = r.body.now }
 
-abbrev pub records_in : List Lent → List Record
-records_in rs = map record_in rs
+abbrev pub records_lent : List Lent → List Record
+records_lent rs = map record_in rs
 
 -- the records as the reader's rules take them: nothing breaks off
 abbrev pub framed : List Record → Frames

@@ -3,3 +3,4 @@ pub mod Numbers
 pub mod OtherLengths
 pub mod Replies
 pub mod ShownLaws
+pub mod Stored

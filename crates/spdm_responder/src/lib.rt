@@ -84,13 +84,24 @@ fn words_of(s: State) -> [u32; STATE_WORDS]
     ]
 }
 
+// Words at the start of a buffer. No copy_from_slice: that is compiled to memmove, which a C host need not have.
+#[tactic(auto, using(crate::proofs::Stored::puts))]
+fn put_words(buffer: &mut [u32], words: &[u32])
+    requires { length words.now ≤ length buffer.old }
+    ensures { buffer.new ≡ splice buffer.old 0 words.now }
+{
+    for (i, word) in words.iter().enumerate() {
+        buffer[i] = *word;
+    }
+}
+
 // Puts a state where the host keeps it; any other number of words stays as it is.
-#[tactic(auto, using(wire::proofs::Picks::picks), unfolding(crate::specs::Words::words_after))]
+#[tactic(auto, using(wire::proofs::Picks::picks, crate::proofs::Stored::put_all), unfolding(crate::specs::Words::words_after))]
 fn put_state(words: &mut [u32], s: State)
     ensures { words.new ≡ words_after words.old s }
 {
     if words.len() == STATE_WORDS {
-        words.copy_from_slice(&words_of(s));
+        put_words(words, &words_of(s));
     }
 }
 
@@ -190,7 +201,7 @@ fn write_parts(s: State, parts: &mut [u32])
         AWAITS_MEASUREMENTS => [A_START as u32, used_before_m(s), M_START as u32, m],
         _ => return,
     };
-    parts[..PART_WORDS].copy_from_slice(&words);
+    put_words(parts, &words);
 }
 
 // Writes what to hash and sign, and says the prefix's length.
@@ -253,7 +264,7 @@ fn write_algorithms(ix: Index, algorithms: &mut [u32]) -> Result<usize, HostErro
     if algorithms.len() < ALGORITHMS_WORDS {
         return Err(HostError::ShortAnswer);
     }
-    algorithms[..ALGORITHMS_WORDS].copy_from_slice(&[
+    let words = [
         u32::from(ix.identity.exponent),
         u32::from(ix.identity.hash),
         image::digest_size(ix.identity.hash) as u32,
@@ -261,7 +272,8 @@ fn write_algorithms(ix: Index, algorithms: &mut [u32]) -> Result<usize, HostErro
         image::signature_size(ix.identity.signature) as u32,
         u32::from(image_lookup::slot_mask(ix)),
         u32::from(ix.measurements),
-    ]);
+    ];
+    put_words(algorithms, &words);
     Ok(0)
 }
 

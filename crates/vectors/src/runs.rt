@@ -2,194 +2,195 @@
 // what is then to be signed.
 use crate::signed::signed;
 use crate::states::{Words, awaits, state_of};
-use crate::text::{Hex, changed, crc32};
-use crate::words::{decode, length, number, word};
-use crate::{FILL, MESSAGE, TRANSCRIPT};
+use crate::text::{Hex, Text, changed, crc32};
+use crate::words::{decode, length, number, without_end, word};
+use crate::{FILL, IMAGE, MESSAGE, TRANSCRIPT};
 use rules::{HostError, Outcome, State};
-use std::alloc::{AllocError, Global};
-use std::collections::BTreeMap;
 use std::iter;
+
+const NONCE: usize = 64;
+
+// A run has at most so many images, the first of its lines.
+const IMAGES: usize = 64;
 
 // How the bytes go up of an answer that a state is handed in as awaiting, and those of the transcript buffer.
 const ANSWER_STEP: u8 = 5;
 
 const TRANSCRIPT_STEP: u8 = 13;
 
-// So many bytes, which go up by a step, modulo 256.
-fn rising(alloc: Global, first: u8, step: u8, n: usize) -> Result<Vec<u8>, AllocError> {
-    iter::successors(Some(first), |byte| Some(byte.wrapping_add(step)))
-        .take(n)
-        .collect(alloc)
-}
-
-fn image_named<'a>(images: &'a BTreeMap<String, Vec<u8>>, name: &str) -> &'a [u8] {
-    images.get(name).map_or(&[], |image| image.as_slice())
+// Bytes that go up by a step, modulo 256.
+fn fill(out: &mut [u8], first: u8, step: u8) {
+    let rising = iter::successors(Some(first), |byte| Some(byte.wrapping_add(step)));
+    for (place, byte) in out.iter_mut().zip(rising) {
+        *place = byte;
+    }
 }
 
 // A run, as far as its lines have come.
 #[derive(Drop)]
-pub struct Run {
-    images: BTreeMap<String, Vec<u8>>,
-    transcript: Vec<u8>,
+pub struct Run<'a> {
+    // the lines from the run's first on
+    lines: &'a [u8],
+    // the transcript buffer, and how long it is lent
+    transcript: [u8; TRANSCRIPT],
+    room: usize,
     // the answer that awaits its signature
-    awaited: Vec<u8>,
+    awaited: [u8; MESSAGE],
     state: State,
-    // what the last call gave, and whether what is to be signed is due as well
-    given: String,
+    // the length of what the last call gave, and whether what is to be signed is due as well: the line that has it may not come
+    given: usize,
     due: bool,
 }
 
-impl Run {
-    pub fn new(alloc: Global) -> Run {
+impl<'a> Run<'a> {
+    pub fn new(lines: &'a [u8]) -> Run<'a> {
         Run {
-            images: BTreeMap::new(alloc),
-            transcript: Vec::new(alloc),
-            awaited: Vec::new(alloc),
+            lines,
+            transcript: [0; TRANSCRIPT],
+            room: 0,
+            awaited: [0; MESSAGE],
             state: state::fresh(),
-            given: String::new(alloc),
+            given: 0,
             due: false,
         }
     }
 
     // I name hex: an image. The one with the name g0 starts a new run.
-    fn take_image(
-        &mut self,
-        rt: &(impl AllocGlobal + Print),
-        line: &str,
-    ) -> Result<(), AllocError> {
-        let name = String::from_str(rt.alloc(), word(line, 1))?;
-        let image = decode(rt, word(line, 2))?;
-        if name.as_str() == "g0" {
-            self.images.clear();
+    fn take_image(&mut self, line: &[u8], lines: &'a [u8]) {
+        if word(line, 1) == b"g0".as_slice() {
+            self.lines = lines;
         }
-        self.images.insert(name, image)?;
-        Ok(())
+    }
+
+    // The image that a call's line names, in hex: it stands on one of the run's first lines.
+    fn image(&self, line: &[u8]) -> &'a [u8] {
+        let name = word(line, 1);
+        let mut lines = self.lines.split_inclusive(|&b| b == b'\n');
+        let named = lines
+            .by_ref()
+            .take(IMAGES)
+            .find(|line| word(without_end(line), 1) == name);
+        // where none of them has the name: the line behind them, whatever its own
+        let line = named.or_else(|| lines.next()).unwrap_or(&[]);
+        word(without_end(line), 2)
     }
 
     // T size fill: the transcript buffer.
-    fn take_transcript(&mut self, alloc: Global, line: &str) -> Result<(), AllocError> {
+    fn take_transcript(&mut self, line: &[u8]) {
         let first = (number(line, 2) % 256) as u8;
-        self.transcript = rising(
-            alloc,
-            first,
-            TRANSCRIPT_STEP,
-            length(line, 1).min(TRANSCRIPT),
-        )?;
-        Ok(())
+        fill(&mut self.transcript, first, TRANSCRIPT_STEP);
+        self.room = length(line, 1);
+    }
+
+    fn lent(&self) -> &[u8] {
+        wire::part_of(&self.transcript, 0, self.room)
     }
 
     // S words: the state, at any place of a run.
-    fn take_state(&mut self, alloc: Global, line: &str) -> Result<(), AllocError> {
-        self.awaited = rising(alloc, 0, ANSWER_STEP, MESSAGE)?;
+    fn take_state(&mut self, line: &[u8]) {
+        fill(&mut self.awaited, 0, ANSWER_STEP);
         self.state = state_of(line);
-        Ok(())
     }
 
     // What a call gave, as the vectors have it.
-    fn take_outcome(
-        &mut self,
-        alloc: Global,
-        outcome: Outcome,
-        before: &[u8],
-        answer: &[u8],
-    ) -> Result<(), AllocError> {
+    fn take_outcome(&mut self, text: &mut Text, outcome: Outcome, before: &[u8], answer: &[u8]) {
         let n = outcome.reply.unwrap_or(0);
         let number = outcome.reply.err().map_or(0, HostError::number);
-        self.given = format!(in alloc;
+        let given = format_args!(
             "{number} {} {} {:08x}{}",
             Hex(wire::part_of(answer, 0, n)),
             Words(outcome.state),
-            crc32(&self.transcript),
+            crc32(self.lent()),
             changed(before, answer, n)
-        )?;
+        );
+        self.given = text.put(0, given).len();
         self.state = outcome.state;
-        self.due = number == 0 && awaits(outcome.state);
-        Ok(())
+        self.due = outcome.reply.is_ok() && awaits(outcome.state);
     }
 
     // R image answer_len transcript_len nonce request: a request.
-    fn take_request(
-        &mut self,
-        rt: &(impl AllocGlobal + Print),
-        line: &str,
-    ) -> Result<(), AllocError> {
-        let nonce = decode(rt, word(line, 4))?;
-        let request = decode(rt, word(line, 5))?;
+    fn take_request(&mut self, rt: &impl Print, text: &mut Text, line: &[u8]) {
+        let mut image = [0u8; IMAGE];
+        let image = decode(rt, self.image(line), &mut image);
+        let mut nonce = [0u8; NONCE];
+        let nonce = decode(rt, word(line, 4), &mut nonce);
+        let mut request = [0u8; MESSAGE];
+        let request = decode(rt, word(line, 5), &mut request);
         let before = [FILL; MESSAGE];
         let mut answer = before;
         let lent = length(line, 2).min(MESSAGE);
-        let room = length(line, 3).min(self.transcript.len());
+        let room = length(line, 3).min(TRANSCRIPT);
         let outcome = responder::respond(
-            image_named(&self.images, word(line, 1)),
+            image,
             self.state,
             &mut self.transcript[..room],
             &mut answer[..lent],
-            &request,
-            &nonce,
+            request,
+            nonce,
         );
         if !awaits(self.state) && awaits(outcome.state) {
-            self.awaited = Vec::from_slice(rt.alloc(), &answer)?;
+            self.awaited = answer;
         }
-        self.take_outcome(rt.alloc(), outcome, &before, &answer)
+        self.take_outcome(text, outcome, &before, &answer);
     }
 
     // F image answer_len transcript_len chip signature: a finishing.
-    fn take_finishing(
-        &mut self,
-        rt: &(impl AllocGlobal + Print),
-        line: &str,
-    ) -> Result<(), AllocError> {
-        let signature = decode(rt, word(line, 5))?;
+    fn take_finishing(&mut self, rt: &impl Print, text: &mut Text, line: &[u8]) {
+        let mut image = [0u8; IMAGE];
+        let image = decode(rt, self.image(line), &mut image);
+        let mut signature = [0u8; MESSAGE];
+        let signature = decode(rt, word(line, 5), &mut signature);
         let mut answer = [FILL; MESSAGE];
         let awaited = self.state.awaited.length as usize;
         wire::copy_into(&mut answer, 0, wire::part_of(&self.awaited, 0, awaited));
         let before = answer;
         let lent = length(line, 2).min(MESSAGE);
         let outcome = signing::finish(
-            image_named(&self.images, word(line, 1)),
+            image,
             self.state,
             wire::part_of(&self.transcript, 0, length(line, 3)),
             &mut answer[..lent],
             number(line, 4) == 1,
-            &signature,
+            signature,
         );
-        self.take_outcome(rt.alloc(), outcome, &before, &answer)
+        self.take_outcome(text, outcome, &before, &answer);
     }
 
     // = number answer words crc: what the last call is to give. Where the line H that is due is not below, a word more comes out.
-    fn given(&self, below: &str) -> Result<String, AllocError> {
-        let mut given = self.given.clone()?;
-        if self.due && !below.starts_with('H') {
-            given.push_str(" H")?;
-        }
-        Ok(given)
+    fn given<'t>(&self, text: &'t mut Text, lines: &[u8]) -> &'t [u8] {
+        let below = lines.split_inclusive(|&b| b == b'\n').nth(1);
+        let missing = self.due && !below.is_some_and(|line| line.starts_with(b"H"));
+        text.put(self.given, if missing { " H" } else { "" })
     }
 
-    // H prefix_len hash_len crc: what is to be signed after a call; where it is not due, nothing comes out.
-    fn signed(&mut self, alloc: Global) -> Result<String, AllocError> {
+    // H prefix_len hash_len crc: what is to be signed after a call; where it is not due, nothing comes out. It stands in the room of what
+    // the call gave, whose line = is above: one that comes below finds it there.
+    fn signed<'t>(&mut self, rt: &impl Print, text: &'t mut Text) -> &'t [u8] {
         if !self.due {
-            return Ok(String::new(alloc));
+            return &[];
         }
         self.due = false;
-        signed(alloc, self.state, &self.transcript)
+        signed(rt, text, self.state, self.lent())
     }
 
-    // Takes a line; answers what comes out of one that has what is to come. Any that has no other letter is what the last call is to give.
-    pub fn take_line(
+    // Takes a line, the first of those that are left; answers what comes out of one that has what is to come. Any that has no other letter
+    // is what the last call is to give.
+    pub fn take_line<'t>(
         &mut self,
-        rt: &(impl AllocGlobal + Print),
-        line: &str,
-        below: &str,
-    ) -> Result<Option<String>, AllocError> {
-        match line.as_bytes().first() {
-            Some(b'I') => self.take_image(rt, line)?,
-            Some(b'T') => self.take_transcript(rt.alloc(), line)?,
-            Some(b'S') => self.take_state(rt.alloc(), line)?,
-            Some(b'R') => self.take_request(rt, line)?,
-            Some(b'F') => self.take_finishing(rt, line)?,
-            Some(b'H') => return Ok(Some(self.signed(rt.alloc())?)),
-            _ => return Ok(Some(self.given(below)?)),
+        rt: &impl Print,
+        text: &'t mut Text,
+        line: &[u8],
+        lines: &'a [u8],
+    ) -> Option<&'t [u8]> {
+        match line.first() {
+            Some(b'I') => self.take_image(line, lines),
+            Some(b'T') => self.take_transcript(line),
+            Some(b'S') => self.take_state(line),
+            Some(b'R') => self.take_request(rt, text, line),
+            Some(b'F') => self.take_finishing(rt, text, line),
+            Some(b'H') => return Some(self.signed(rt, text)),
+            _ => return Some(self.given(text, lines)),
         }
-        Ok(None)
+        None
     }
 }

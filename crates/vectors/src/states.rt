@@ -5,7 +5,7 @@ use rules::{Awaited, Negotiated, State, Used};
 use std::fmt;
 
 // S words: the state.
-pub fn state_of(line: &str) -> State {
+pub fn state_of(line: &[u8]) -> State {
     State {
         negotiated: Negotiated {
             phase: number(line, 1),

@@ -1,34 +1,57 @@
-// What a line of vectors is taken apart with: its words, numbers, and bytes in hex.
+// What a file of vectors is taken apart with: its words, numbers, and bytes in hex. A file is bytes: it need be no text.
 ghost use Rattle.std.specs.Prelude.{◌<◌, IfSome};
 
-use std::alloc::AllocError;
+use std::str;
 
-// No word has this number: every number of the vectors is smaller.
+// No word has this number: every number of the vectors is smaller. No Option: a number that is none goes on, and makes its line disagree.
 const NO_NUMBER: u32 = u32::MAX;
 
-// A word, counted from 0; empty where there are fewer.
-pub fn word(line: &str, n: usize) -> &str {
-    line.split(' ').nth(n).unwrap_or("")
+// The word for no bytes.
+pub const NO_BYTES: &[u8] = b"-";
+
+// A line without its line end.
+pub fn without_end(line: &[u8]) -> &[u8] {
+    line.strip_suffix(b"\n").unwrap_or(line)
+}
+
+// A part, counted from 0, of those that a byte stands between; empty where there are fewer.
+pub fn part(bytes: &[u8], n: usize, between: u8) -> &[u8] {
+    bytes.split(|&b| b == between).nth(n).unwrap_or(&[])
+}
+
+pub fn word(line: &[u8], n: usize) -> &[u8] {
+    part(line, n, b' ')
 }
 
 // The line from a word on.
-pub fn rest(line: &str, n: usize) -> &str {
-    line.splitn(n.saturating_add(1), ' ').nth(n).unwrap_or("")
+pub fn rest(line: &[u8], n: usize) -> &[u8] {
+    let mut parts = line.splitn(n.saturating_add(1), |&b| b == b' ');
+    parts.nth(n).unwrap_or(&[])
+}
+
+// The number of a word of digits, which parse would take with a sign too.
+fn decimal(word: &[u8]) -> Option<u32> {
+    let digits = str::from_utf8(word).ok()?;
+    if digits.starts_with('+') {
+        return None;
+    }
+    digits.parse().ok()
 }
 
 // The number that is a word of the line; a word that is none makes its line disagree.
-pub fn number(line: &str, n: usize) -> u32 {
-    word(line, n).parse().unwrap_or(NO_NUMBER)
+pub fn number(line: &[u8], n: usize) -> u32 {
+    decimal(word(line, n)).unwrap_or(NO_NUMBER)
 }
 
 // The length that is a word of the line.
-pub fn length(line: &str, n: usize) -> usize {
+pub fn length(line: &[u8], n: usize) -> usize {
     number(line, n) as usize
 }
 
 // The number of a word as a byte; says so where it is none.
-pub fn byte(rt: &impl Print, word: &str) -> u8 {
-    word.parse().unwrap_or_else(|_| {
+pub fn byte(rt: &impl Print, word: &[u8]) -> u8 {
+    let byte = decimal(word).and_then(|n| u8::try_from(n).ok());
+    byte.unwrap_or_else(|| {
         let _ = rt.println("a word is no byte");
         0
     })
@@ -52,16 +75,23 @@ fn hex_byte(pair: &[u8]) -> Option<u8> {
     Some(hex_digit(*high)? * 16 + hex_digit(*low)?)
 }
 
-// The bytes of a word of hex digits; says so where a pair is none. A single '-' stands for no bytes.
-pub fn decode(rt: &(impl AllocGlobal + Print), word: &str) -> Result<Vec<u8>, AllocError> {
-    let digits = if word == "-" { "" } else { word };
-    let mut bytes = Vec::with_capacity(rt.alloc(), digits.len() / 2)?;
-    for pair in digits.as_bytes().chunks(2) {
+// The bytes of a word of hex digits, at the start of a room; says so where a pair is none, and of each byte that has no room.
+pub fn decode<'a>(rt: &impl Print, word: &[u8], room: &'a mut [u8]) -> &'a [u8] {
+    let digits = if word == NO_BYTES { &[] } else { word };
+    let pairs = digits.chunks(2);
+    let length = pairs.len();
+    let mut places = room.iter_mut();
+    for pair in pairs {
         let byte = hex_byte(pair).unwrap_or_else(|| {
             let _ = rt.println("a word is not in hex");
             0
         });
-        bytes.push(byte)?;
+        match places.next() {
+            Some(place) => *place = byte,
+            None => {
+                let _ = rt.println("no room");
+            }
+        }
     }
-    Ok(bytes)
+    wire::part_of(room, 0, length)
 }

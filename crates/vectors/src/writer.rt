@@ -1,48 +1,76 @@
 // Writer: a line has a first byte, the length of the lent output, records, and what the writer is to give.
-use crate::text::{Hex, changed};
-use crate::words::{byte, decode, length, word};
+use crate::text::{Hex, Text, mark};
+use crate::words::{NO_BYTES, byte, decode, length, part, word};
 use crate::{FILL, IMAGE};
-use image_writer::Record;
-use std::alloc::AllocError;
 
-// kind:body,kind:body,..: the kinds and bodies of a line, a single '-' for none.
-fn records_of(
-    rt: &(impl AllocGlobal + Print),
-    list: &str,
-) -> Result<Vec<(u8, Vec<u8>)>, AllocError> {
-    let mut records = Vec::new(rt.alloc());
-    let list = if list == "-" { "" } else { list };
-    for record in list.split(',').take_while(|record| !record.is_empty()) {
-        let mut parts = record.split(':');
-        let kind = byte(rt, parts.next().unwrap_or(""));
-        let body = decode(rt, parts.next().unwrap_or(""))?;
-        records.push((kind, body))?;
+// A line has at most so many records.
+const RECORDS: usize = 64;
+
+// The records of a line, as the writer is lent them.
+#[derive(Drop)]
+struct Records {
+    count: usize,
+    kinds: [u8; RECORDS],
+    lengths: [usize; RECORDS],
+    bodies: [u8; IMAGE],
+}
+
+impl Records {
+    // None yet.
+    fn new() -> Self {
+        Records {
+            count: 0,
+            kinds: [0; RECORDS],
+            lengths: [0; RECORDS],
+            bodies: [0; IMAGE],
+        }
     }
-    Ok(records)
+
+    // kind:body,kind:body,..: takes the records of a line.
+    fn take(&mut self, rt: &impl Print, list: &[u8]) {
+        let mut end: usize = 0;
+        let list = if list == NO_BYTES { &[] } else { list };
+        let given = list
+            .split(|&b| b == b',')
+            .take_while(|record| !record.is_empty());
+        for ((record, kind), length) in given.zip(&mut self.kinds).zip(&mut self.lengths) {
+            let room = &mut self.bodies[end.min(IMAGE)..];
+            *length = decode(rt, part(record, 1, b':'), room).len();
+            *kind = byte(rt, part(record, 0, b':'));
+            end = end.saturating_add(*length);
+            self.count = self.count.saturating_add(1);
+        }
+    }
+}
+
+// The word for an output that is changed from a place on. It is held to no second one: that would be as long again.
+fn changed(out: &[u8], from: usize) -> &'static str {
+    mark(out.iter().skip(from).any(|&b| b != FILL))
 }
 
 // What the writer makes of a line, as the vectors have it.
-pub fn written(rt: &(impl AllocGlobal + Print), line: &str) -> Result<String, AllocError> {
-    let owned = records_of(rt, word(line, 2))?;
-    let mut records = Vec::new(rt.alloc());
-    for (kind, body) in &owned {
-        records.push(Record {
-            kind: *kind,
-            body: body.as_slice(),
-        })?;
-    }
-    let before = [FILL; IMAGE];
-    let mut out = before;
+pub fn written<'a>(rt: &impl Print, text: &'a mut Text, line: &[u8]) -> &'a [u8] {
+    let mut records = Records::new();
+    records.take(rt, word(line, 2));
+    let mut out = [FILL; IMAGE];
     let lent = length(line, 1).min(IMAGE);
     let first = byte(rt, word(line, 0));
-    match image_writer::write_image(&mut out[..lent], first, &records) {
+    let kinds = wire::part_of(&records.kinds, 0, records.count);
+    let written = image_writer::write_image(
+        &mut out[..lent],
+        first,
+        kinds,
+        &records.lengths,
+        &records.bodies,
+    );
+    match written {
         Ok(n) => {
             let image = Hex(wire::part_of(&out, 0, n));
-            format!(in rt.alloc(); "0 {image}{}", changed(&before, &out, n))
+            text.put(0, format_args!("0 {image}{}", changed(&out, n)))
         }
         Err(error) => {
             let number = error.number();
-            format!(in rt.alloc(); "{number} -{}", changed(&before, &out, 0))
+            text.put(0, format_args!("{number} -{}", changed(&out, 0)))
         }
     }
 }

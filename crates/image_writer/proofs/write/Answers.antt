@@ -3,10 +3,11 @@
 use Rattle.std.proofs.Common.{ℕ, List, [], ◌∷◌, ◌+◌, ◌≤◌, length, refl, ap, ◌∙◌, arith}
 use Rattle.wire.specs.Bytes.{splice}
 use Rattle.wire.proofs.Laws.{splice-length}
-use Rattle.image_writer.specs.Writing.{records_in, joined}
+use Rattle.image_writer.specs.Writing.{joined}
+use Rattle.image_writer.specs.Remaining.{left}
 use Rattle.image_writer.proofs.Promise.{wrote_nothing, undrafted, passed_on, image-fits, wrote_image}
 use Rattle.image_writer.proofs.Drafts.{closing-by}
-use Rattle.image_writer.proofs.write_image.Goals as goal
+use Rattle.image_writer.proofs.write.Goals as goal
 
 pub returns-in_err-draft_of : goal.returns-in_err-draft_of
 returns-in_err-draft_of c =
@@ -22,12 +23,12 @@ pub put_all-requires : goal.put_all-requires
 put_all-requires c =
     let a = c.args in
     let answers = c.in_ok-length.ensures ∙ closing-by _ _ (length a.out.now) _ c.in_ok-draft_of.ensures in
-    let h : 1 + length (joined (records_in a.records.now)) ≤ length a.out.now = image-fits _ _ _ _ answers in
+    let h : 1 + length (joined (left a.records)) ≤ length a.out.now = image-fits _ _ _ _ answers in
     omega (arith, ap length c.copy_into.ensures, splice-length a.out.now 0 (a.first ∷ []))
 
 pub returns : goal.returns
 returns c =
     let a = c.args in
     let answers = c.in_ok-length.ensures ∙ closing-by _ _ (length a.out.now) _ c.in_ok-draft_of.ensures in
-    let p = c.put_all.ensures ∙ ap (λ (o : List ℕ). splice o 1 (joined (records_in a.records.now))) c.copy_into.ensures in
+    let p = c.put_all.ensures ∙ ap (λ (o : List ℕ). splice o 1 (joined (left a.records))) c.copy_into.ensures in
     wrote_image _ _ _ _ _ answers p

@@ -1,0 +1,9 @@
+-- The room keeps its length, and the bytes read are within it. The measure is the number of bytes that there is room for.
+use Rattle.std.proofs.Common.{length, ◌-◌, ◌≤◌}
+use Rattle.image_info.proofs.read_full.Given as goal
+
+abbrev pub invariant-loop-done : goal.invariant-loop-done
+invariant-loop-done g l = l.done ≤ length l.room
+
+abbrev pub decreases-loop-done : goal.decreases-loop-done
+decreases-loop-done g l = length l.initial.room - l.done
