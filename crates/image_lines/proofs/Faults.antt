@@ -80,26 +80,30 @@ digits = refl
 room : line_room ≡ 16451
 room = refl
 
--- What lines have come to, how long the good part is, and the buffer. A line refused for its kind, and the good one behind it, leave what
--- was; so does a malformed one, and a wrong first byte, which is put all the same, and counts.
+-- What lines have come to, the good part, and the buffer. A line refused for its kind, and the good one behind it, leave what was; so does a
+-- malformed one, and a wrong first byte, which is put all the same, and counts.
 record Left : Type 0 where
   come : Option (Result Draft)
-  good : ℕ
+  good : Draft
   image : List ℕ
 
 abbrev left : List (List ℕ) → Left
 left ls =
     let t = taken_all (taking_of started (replicate 8 0) (replicate 9 0)) (text ls) in
-    record { come = t.draft; good = t.good.length; image = t.image }
+    record { come = t.draft; good = t.good; image = t.image }
+
+-- the identity is seen, of SHA-256, and nothing behind it
+abbrev identified : Draft
+identified = record { seen = Some (record { size = 32; chains = 0; slot = 0; measurements = 0; index = 0; summaries = 0 }); length = 7 }
 
 abbrev put : List ℕ
 put = 1 ∷ 0 ∷ 3 ∷ 1 ∷ 14 ∷ 0 ∷ 4 ∷ 0 ∷ 0 ∷ []
 
 good_part :
     map left ((first ∷ identity 101 ∷ (57 ∷ 57 ∷ []) ∷ identity 101 ∷ []) ∷ (first ∷ identity 101 ∷ (48 ∷ []) ∷ []) ∷ ((48 ∷ 50 ∷ []) ∷ identity 101 ∷ []) ∷ [])
-    ≡ record { come = Some (number 4); good = 7; image = put }
-    ∷ record { come = Some (number 4); good = 7; image = put }
-    ∷ record { come = Some (number 2); good = 1; image = 2 ∷ replicate 8 0 }
+    ≡ record { come = Some (number 4); good = identified; image = put }
+    ∷ record { come = Some (number 4); good = identified; image = put }
+    ∷ record { come = Some (number 2); good = record { seen = None; length = 1 }; image = 2 ∷ replicate 8 0 }
     ∷ []
 unfolding digest_size pick unless identity_fault chain_fault measurement_fault summary_fault record_fault record_bytes splice held_of first_held
     opened_by longer digit_of taken

@@ -43,7 +43,7 @@ const NEW_LINE: Line = Line {
 };
 
 // What has come of a text: what the lines that have ended come to, nothing before the first has; what those before the first fault came
-// to, whose length, up to an image's limit, is where their records in the image buffer end; and the line that has not ended.
+// to, whose length is where their records end, as far as the buffer and an image's limit go (1 before any); and the line that goes on.
 #[derive(Clone, Copy)]
 pub struct Text {
     pub draft: Option<Result<Draft, Fault>>,
